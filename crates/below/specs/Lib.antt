@@ -1,0 +1,2 @@
+-- The definitions that the rules of document 01 are made of.
+pub mod Below

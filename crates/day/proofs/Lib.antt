@@ -1,0 +1,7 @@
+-- The laws of the calendar.
+pub mod Steps
+pub mod Months
+pub mod Laws
+pub mod Inverse
+pub mod Paper
+pub mod Next
