@@ -1,0 +1,89 @@
+-- What the later rules count on: a plan that breaks none of rules 1 to 4. Assumes nothing.
+use Prim.Native.Nat.{ℕ, _≤_, _<_}
+use mathlib.Core.Bool.{true, false, not, _||_}
+use mathlib.Core.List.{List}
+use mathlib.Core.Logic.{⊎-elim}
+use mathlib.Core.Path.{_≡_}
+use native.Mathlib.Omega.{arith}
+use lib.Dec.{eqb, ltb}
+use borrow.Author.Tests.{leb-true, ltb-false, eqb-true, not-false}
+use Rattle.below.proofs.Search.{any-not}
+use Rattle.below.proofs.Tests.{bool-cases, true-not-false, or-either, or-neither}
+use Rattle.block.specs.Sums.{sumsRight}
+use Rattle.day.specs.Days.{openMark, isDay}
+use Rattle.plan.specs.Fields.{kindOf, firstOf, endOf, lastOf}
+use Rattle.plan.specs.Periods.{blocksOf, blockAt, isPeriod}
+use Rattle.refusal.proofs.Order.{Passed, passed-lowest}
+use Rattle.refusal.specs.declared.Refusal.{Refusal}
+use Rattle.form.specs.Form.{badLength, misplaced, daysOut, dosesOut, periodOut, blockOut, formBreaks, formRule, formOf}
+use Rattle.form.specs.declared.Form.the-variants.{Right, Broken}
+
+pub record Formed (limit : ℕ) (p : List ℕ) : Type 0 where
+  pub long : badLength limit p ≡ false
+  pub passed : Passed (blocksOf p) (formBreaks p) 5
+
+not-both : {r : Refusal} → Broken r ≡ Right → ⊥
+not-both e = let z : _≡_ {A = ℕ} 0 1 = cc in omega arith
+
+-- what `form_of` says where it says that all is right
+pub formed : (limit : ℕ) (p : List ℕ) → formOf limit p ≡ Right → Formed limit p
+unfolding formOf
+formed limit p e =
+    ⊎-elim
+    (λ (t : badLength limit p ≡ true). absurd (not-both (rw t at e)))
+    (λ (t : badLength limit p ≡ false).
+    let f = rw t at e in
+    ⊎-elim
+    (λ (u : ltb (formRule p) 5 ≡ true). absurd (not-both (rw u at f)))
+    (λ u.
+    let l : 5 ≤ formRule p = ltb-false _ _ u in
+    record { long = t; passed = λ k q. passed-lowest (blocksOf p) (formBreaks p) 5 k (omega arith) })
+    (bool-cases (ltb (formRule p) 5)))
+    (bool-cases (badLength limit p))
+
+-- the days of a block that rule 4 lets pass
+days-in : (r : List ℕ) → daysOut r ≡ false → (firstOf r ≤ lastOf r) × (lastOf r ≤ 73048)
+days-in r e =
+    let x = or-neither _ (ltb (lastOf r) (firstOf r)) e in
+    let y = or-neither (not (isDay (firstOf r))) (not (isDay (endOf r) || eqb (endOf r) openMark)) (x .0) in
+    let last : lastOf r ≤ 73048 =
+    ⊎-elim
+    (λ (t : eqb (endOf r) openMark ≡ true). rw t (omega arith))
+    (λ (t : eqb (endOf r) openMark ≡ false).
+    rw t
+    (⊎-elim
+    (λ (u : isDay (endOf r) ≡ true). leb-true _ _ u)
+    (λ u. absurd (true-not-false u t))
+    (or-either (isDay (endOf r)) (eqb (endOf r) openMark) (not-false _ (y .1)))))
+    (bool-cases (eqb (endOf r) openMark)) in
+    (ltb-false _ _ (x .1), last)
+
+module _ {limit : ℕ} {p : List ℕ} (f : Formed limit p) where
+  -- no block breaks rule 2, 3 or 4
+  pub summed : (b : ℕ) → b < blocksOf p → sumsRight (blockAt p b) ≡ true
+  unfolding formBreaks
+  summed b l = not-false _ (any-not (formBreaks p 2) (f .passed 2 (omega arith)) b l)
+
+  pub placed : (b : ℕ) → b < blocksOf p → misplaced p b ≡ false
+  unfolding formBreaks
+  placed b l = any-not (formBreaks p 3) (f .passed 3 (omega arith)) b l
+
+  pub ranged : (b : ℕ) → b < blocksOf p → blockOut (blockAt p b) ≡ false
+  unfolding formBreaks
+  ranged b l = any-not (formBreaks p 4) (f .passed 4 (omega arith)) b l
+
+  -- block 0 is a head, and so begins no period
+  pub head : 0 < blocksOf p → kindOf (blockAt p 0) ≡ 1
+  unfolding misplaced
+  head l = eqb-true _ _ (not-false _ (or-neither (not (eqb (kindOf (blockAt p 0)) 1)) _ (placed 0 l) .0))
+
+  pub head-no-period : 0 < blocksOf p → isPeriod p 0 ≡ false
+  head-no-period l = rw (head l)
+
+  -- a period's days are in order, and days of the calendar
+  pub dated : (b : ℕ) → b < blocksOf p → isPeriod p b ≡ true → (firstOf (blockAt p b) ≤ lastOf (blockAt p b)) × (lastOf (blockAt p b) ≤ 73048)
+  unfolding blockOut periodOut
+  dated b l e =
+      let k : kindOf (blockAt p b) ≡ 2 = eqb-true _ _ e in
+      let o : periodOut (blockAt p b) ≡ false = rw k at (ranged b l) in
+      days-in (blockAt p b) (or-neither (daysOut (blockAt p b)) _ (or-neither _ (dosesOut (blockAt p b)) o .0) .0)

@@ -1,0 +1,3 @@
+-- What rules 1 to 4 give the later rules.
+pub mod Laws
+pub mod Formed

@@ -1,0 +1,113 @@
+// The fields of a block and of a dose record.
+use crate::Dose;
+use block::byte_at;
+use block::half_at;
+use block::long_at;
+use block::word_at;
+use day::Day;
+ghost use mathlib.Core.Path.{_≡_};
+ghost use Rattle.plan.specs.Fields.{kindOf, countOf, intervalOf, firstOf, endOf, lastOf, planNumberOf, revisionOf, vkaOf, recordAt, doseOf, isMarked, upperOf};
+
+// 1 for a head, 2 for a period, 3 for a continuation.
+pub fn kind_of(r: &[u8]) -> u8
+    ensures { λ k. ⌜ k ≡ kindOf (now (r .entry)) ⌝ }
+{
+    byte_at(r, 0)
+}
+
+// Of a head the further blocks, else the doses of this block.
+pub fn count_of(r: &[u8]) -> u8
+    ensures { λ n. ⌜ n ≡ countOf (now (r .entry)) ⌝ }
+{
+    byte_at(r, 1)
+}
+
+// A period's iteration interval, 0 where it is not iterated.
+pub fn interval_of(r: &[u8]) -> u16
+    ensures { λ n. ⌜ n ≡ intervalOf (now (r .entry)) ⌝ }
+{
+    half_at(r, 2)
+}
+
+// The treatment's start, or a period's first day.
+pub fn first_of(r: &[u8]) -> u32
+    ensures { λ n. ⌜ n ≡ firstOf (now (r .entry)) ⌝ }
+{
+    word_at(r, 4)
+}
+
+// The treatment's end, or a period's last day, as it is written: a day or the open mark.
+pub fn end_of(r: &[u8]) -> u32
+    ensures { λ n. ⌜ n ≡ endOf (now (r .entry)) ⌝ }
+{
+    word_at(r, 8)
+}
+
+// The same as a day: an open end counts as the calendar's last day.
+pub fn last_of(r: &[u8]) -> u32
+    ensures { λ n. ⌜ n ≡ lastOf (now (r .entry)) ⌝ }
+{
+    let last = Day::new(end_of(r)).closed();
+    last.number
+}
+
+pub fn plan_number_of(r: &[u8]) -> u32
+    ensures { λ n. ⌜ n ≡ planNumberOf (now (r .entry)) ⌝ }
+{
+    word_at(r, 12)
+}
+
+pub fn revision_of(r: &[u8]) -> u32
+    ensures { λ n. ⌜ n ≡ revisionOf (now (r .entry)) ⌝ }
+{
+    word_at(r, 16)
+}
+
+// 1 for a VKA plan, else 0.
+pub fn vka_of(r: &[u8]) -> u8
+    ensures { λ n. ⌜ n ≡ vkaOf (now (r .entry)) ⌝ }
+{
+    byte_at(r, 20)
+}
+
+// The dose that a record holds.
+pub fn dose_of(record: &[u8]) -> Dose
+    ensures { λ d. ⌜ d ≡ doseOf (now («record» .entry)) ⌝ }
+{
+    Dose {
+        day: half_at(record, 0),
+        kind: byte_at(record, 2),
+        mark: byte_at(record, 3),
+        minute: half_at(record, 4),
+        low: long_at(record, 8),
+        high: long_at(record, 16),
+    }
+}
+
+// Dose i of a block, from a part in its middle.
+pub fn dose_at(r: &[u8], i: u8) -> Dose
+    ensures { λ d. ⌜ d ≡ doseOf (recordAt (now (r .entry)) i) ⌝ }
+{
+    let at = 24 + (i as usize) * 24;
+    let end = at + 24;
+    if end <= r.len() {
+        return dose_of(&r[at..end]);
+    }
+    if at <= r.len() {
+        return dose_of(&r[at..]);
+    }
+    dose_of(&r[..0])
+}
+
+// Is it as needed?
+pub fn is_marked(d: Dose) -> bool
+    ensures { λ r. ⌜ r ≡ isMarked d ⌝ }
+{
+    d.mark == 1
+}
+
+pub fn upper_of(d: Dose) -> u64
+    ensures { λ r. ⌜ r ≡ upperOf d ⌝ }
+{
+    if d.high == 0 { d.low } else { d.high }
+}

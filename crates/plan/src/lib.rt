@@ -1,0 +1,35 @@
+// The plan, by document 01: a head, periods and their doses, read from the plan's bytes. Nothing is asked of the bytes:
+// what lies past their end reads as 0.
+mod fields;
+mod periods;
+
+pub use fields::count_of;
+pub use fields::dose_at;
+pub use fields::dose_of;
+pub use fields::end_of;
+pub use fields::first_of;
+pub use fields::interval_of;
+pub use fields::is_marked;
+pub use fields::kind_of;
+pub use fields::last_of;
+pub use fields::plan_number_of;
+pub use fields::revision_of;
+pub use fields::upper_of;
+pub use fields::vka_of;
+pub use periods::block_of;
+pub use periods::class_by;
+pub use periods::class_of;
+pub use periods::dose_in;
+pub use periods::doses_of;
+pub use periods::is_period;
+pub use periods::more_blocks;
+
+// A dose record.
+pub struct Dose {
+    pub day: u16,
+    pub kind: u8,
+    pub mark: u8,
+    pub minute: u16,
+    pub low: u64,
+    pub high: u64,
+}

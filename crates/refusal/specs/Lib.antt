@@ -1,0 +1,3 @@
+-- Document 01, "Verdict": the number and the place of a refusal, and the order in which rules are named.
+pub mod Refusals
+pub mod Order
