@@ -29,6 +29,10 @@ whole limit p l e =
     let n = eqb-false (length p) 0 (y .0) in
     record { whole = omega arith; some = omega (arith, n); few = omega arith }
 
+pub short : (limit : ℕ) (p : List ℕ) → badLength limit p ≡ false → length p ≤ limit
+short limit p e =
+    ltb-false _ _ (or-neither (eqb (length p) 0 || not (eqb (length p % 512) 0)) (ltb limit (length p)) e .1)
+
 -- its blocks are whole
 pub length-block : {p : List ℕ} → Whole p → (b : ℕ) → b < blocksOf p → length (blockAt p b) ≡ 512
 unfolding blockAt

@@ -2,8 +2,10 @@
 use Prim.Native.Nat.{ℕ, _≤_, _<_}
 use mathlib.Core.Bool.{Bool, true, false}
 use mathlib.Core.Path.{_≡_}
+use mathlib.Core.Logic.{⊎-elim}
 use native.Mathlib.Omega.{arith}
-use Rattle.below.proofs.Search.{NoneBelow, first-facts, first-is, first-end, any-hit, any-none}
+use Rattle.below.proofs.Tests.{true-not-false, le-or-lt}
+use Rattle.below.proofs.Search.{IsFirst, NoneBelow, first-facts, first-is, first-end, any-hit, any-none}
 use Rattle.below.specs.Below.{anyBelow}
 use Rattle.refusal.specs.Order.{lowestRule, lowestBlock}
 
@@ -34,3 +36,17 @@ module _ (n : ℕ) (breaks : ℕ → ℕ → Bool) where
   pub passed-lowest : (end : ℕ) → Passed (lowestRule end n breaks)
   unfolding lowestRule
   passed-lowest end = first-facts (λ i. anyBelow n (breaks i)) end .before
+
+  -- what the lowest block is, and that a broken rule has one
+  pub block-facts : (k : ℕ) → IsFirst (breaks k) n (lowestBlock n breaks k)
+  unfolding lowestBlock
+  block-facts k = first-facts (breaks k) n
+
+  pub block-some : (end : ℕ) → lowestRule end n breaks < end → lowestBlock n breaks (lowestRule end n breaks) < n
+  unfolding lowestRule
+  block-some end l =
+      let hit = first-facts (λ i. anyBelow n (breaks i)) end .here l in
+      ⊎-elim
+      (λ h. absurd (true-not-false hit (block-none _ h)))
+      (λ h. h)
+      (le-or-lt n (lowestBlock n breaks (lowestRule end n breaks)))

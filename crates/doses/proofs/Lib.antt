@@ -1,0 +1,3 @@
+-- The laws that other crates' proofs cite.
+pub mod Lists
+pub mod Sums

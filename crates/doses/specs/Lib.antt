@@ -1,0 +1,3 @@
+-- Document 01, "A day's doses".
+pub mod Lists
+pub mod Doses

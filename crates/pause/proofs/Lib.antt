@@ -1,0 +1,4 @@
+-- The laws that other crates' proofs cite.
+pub mod Lists
+pub mod Filled
+pub mod Walk

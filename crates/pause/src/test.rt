@@ -1,0 +1,35 @@
+// One pause, on plain numbers.
+use crate::Pause;
+use day::Day;
+ghost use mathlib.Core.Path.{_≡_};
+ghost use mathlib.Core.Bool.{_||_};
+ghost use Rattle.pause.specs.Pauses.{isIn, holds, isOut};
+
+// A record that holds no day: what stands past a list's end.
+pub(crate) const NO_DAY: Pause = Pause {
+    first: Day::OPEN.number,
+    last: 0,
+};
+
+// Does the pause from `first` to `last`, which may be open, hold the day?
+pub fn is_in(first: u32, last: u32, day: u32) -> bool
+    ensures { λ r. ⌜ r ≡ isIn first last day ⌝ }
+{
+    (first <= day) & (day <= Day::new(last).closed().number)
+}
+
+// Was the day held before, or does this pause hold it?
+pub(crate) fn or_held(hit: bool, p: Pause, day: u32) -> bool
+    ensures { λ r. ⌜ r ≡ (hit || holds p day) ⌝ }
+{
+    hit | is_in(p.first, p.last, day)
+}
+
+// Does the pause end before it starts, or have a day outside the calendar other than an open last?
+pub fn is_out(p: Pause) -> bool
+    ensures { λ r. ⌜ r ≡ isOut p ⌝ }
+{
+    let first = Day::new(p.first);
+    let last = Day::new(p.last);
+    !first.is_day() | !(last.is_day() | last.is_open()) | (last.closed().number < p.first)
+}

@@ -1,0 +1,12 @@
+-- The laws behind the functions' proofs. Walked says what the pass has found when it stands at a dose, Ends and Ruling what
+-- that makes of the rules.
+mod Choice
+mod Limit
+mod Counts
+mod Back
+mod Steps
+mod Lowest
+mod Rank
+mod Walked
+mod Ends
+mod Ruling

@@ -1,0 +1,169 @@
+-- The lowest broken rule of the period at block b of the plan p, step by step from rule 5 on. Assumes nothing.
+use Prim.Native.Nat.{ℕ, _+_, _-_, _≤_, _<_}
+use mathlib.Core.Bool.{Bool, true, false}
+use mathlib.Core.List.{List}
+use mathlib.Core.Logic.{⊎-elim}
+use mathlib.Core.Path.{_≡_, refl, sym, _∙_}
+use native.Mathlib.Nat.{eq-or-lt-of-le}
+use native.Mathlib.Omega.{arith}
+use lib.Dec.{ltb}
+use borrow.Author.Tests.{ne-eqb}
+use Rattle.below.specs.Below.{anyBelow}
+use Rattle.below.proofs.Search.{first-is, first-none}
+use Rattle.below.proofs.Tests.{le-or-lt}
+use Rattle.plan.specs.Fields.{isMarked}
+use Rattle.plan.specs.Periods.{blockAt, dosesOf, doseIn, hasUnmarked, hasMarked, classBy, classOf}
+use Rattle.period.specs.declared.turn.Walk.{Walk}
+use Rattle.period.specs.Doses.{doseBreaks, tooMuch}
+use Rattle.period.specs.Period.{outside, early, limitOf, periodBreaks, ruleOf}
+use Rattle.period.specs.Turn.{Passed}
+use Rattle.period.specs.Finish.{isPast, isAnyDay, isBoth, isTooMuch, NotYet}
+use Rattle.period.proofs.Counts.{any-count, any-not-count}
+use Rattle.period.proofs.Walked.{Walked, walked}
+use Rattle.period.proofs.Ends as ends
+
+module _ (p : List ℕ) (b : ℕ) where
+  breaks : ℕ → Bool
+  breaks i = periodBreaks (5 + i) p b
+
+  -- a rule is broken, and none below it
+  rule-is : (k : ℕ) → 5 ≤ k → k < 15 → NotYet p b k → periodBreaks k p b ≡ true → k ≡ ruleOf p b
+  unfolding ruleOf breaks
+  rule-is k a l none hit =
+      let e : 5 + (k - 5) ≡ k = omega arith in
+      rw (first-is breaks {n = 10} {i = k - 5} (omega arith) (λ i m. none (5 + i) (omega arith) (omega arith)) (rw e hit)) (sym e)
+
+  -- no rule is
+  none-is : NotYet p b 15 → 15 ≡ ruleOf p b
+  unfolding ruleOf breaks
+  none-is none = rw (first-none breaks 10 (λ i m. none (5 + i) (omega arith) (omega arith)))
+
+  from-5 : NotYet p b 5
+  from-5 i a l = absurd (omega arith)
+
+  one-on : (k : ℕ) → NotYet p b k → periodBreaks k p b ≡ false → NotYet p b (k + 1)
+  one-on k none e i a l =
+      ⊎-elim
+      (λ (q : i ≡ k). rw q e)
+      (λ q. none i a q)
+      (eq-or-lt-of-le (let z : i ≤ k = omega arith in z))
+
+  pub is-5 : outside p b ≡ true → 5 ≡ ruleOf p b
+  unfolding periodBreaks
+  is-5 e = rule-is 5 (omega arith) (omega arith) from-5 e
+
+  module _ (inside : outside p b ≡ false) where
+    to-6 : NotYet p b 6
+    unfolding periodBreaks
+    to-6 = one-on 5 from-5 inside
+
+    pub is-6 : early p b ≡ true → 6 ≡ ruleOf p b
+    unfolding periodBreaks
+    is-6 e = rule-is 6 (omega arith) (omega arith) to-6 e
+
+    pub to-7 : early p b ≡ false → NotYet p b 7
+    unfolding periodBreaks
+    to-7 e = one-on 6 to-6 e
+
+  -- the pass has come to the last dose
+  pub class-is : {n : ℕ} {s : Walk} → n ≡ dosesOf p b → Passed p b n s → classBy (ltb (s .marked) n) (ltb 0 (s .marked)) ≡ classOf p b
+  unfolding classOf hasUnmarked hasMarked
+  class-is {n} {s} counts done =
+      let marked : ℕ → Bool = λ i. isMarked (doseIn p b i) in
+      let w : Walked (doseIn p b) n s = rw (done .kept) (walked (doseIn p b) n) in
+      rw (← counts, any-not-count marked n, any-count marked n, w .marked)
+
+  module _ {limit n : ℕ} {s : Walk} (limits : limit ≡ limitOf (blockAt p b)) (counts : n ≡ dosesOf p b) (done : Passed p b n s) where
+    w : Walked (doseIn p b) n s
+    w = rw (done .kept) (walked (doseIn p b) n)
+
+    by-doses : (k : ℕ) → 7 ≤ k → k < 14 → periodBreaks k p b ≡ anyBelow n (doseBreaks limit k (doseIn p b))
+    unfolding periodBreaks
+    by-doses k a l =
+        rw (limits, counts, ne-eqb k 5 (λ (z : k ≡ 5). omega arith), ne-eqb k 6 (λ (z : k ≡ 6). omega arith), ne-eqb k 14 (λ (z : k ≡ 14). omega arith))
+
+    by-sum : periodBreaks 14 p b ≡ tooMuch limit n (doseIn p b)
+    unfolding periodBreaks
+    by-sum = rw (limits, counts)
+
+    pub is-7 : s .rule ≡ 7 → NotYet p b 7 → 7 ≡ ruleOf p b
+    is-7 e y = rule-is 7 (omega arith) (omega arith) y (by-doses 7 (omega arith) (omega arith) ∙ ends.fallen limit n (doseIn p b) s w e)
+
+    module _ (n7 : s .rule ≡ 7 → ⊥) where
+      up : 7 < s .rule
+      up = omega (arith, w .least)
+
+      seven : periodBreaks 7 p b ≡ isPast s limit
+      seven = by-doses 7 (omega arith) (omega arith) ∙ ends.past limit n (doseIn p b) s w up
+
+      pub is-past : isPast s limit ≡ true → NotYet p b 7 → 7 ≡ ruleOf p b
+      is-past e y = rule-is 7 (omega arith) (omega arith) y (seven ∙ e)
+
+      module _ (in-time : isPast s limit ≡ false) where
+        to-8 : NotYet p b 7 → NotYet p b 8
+        to-8 y = one-on 7 y (seven ∙ in-time)
+
+        eight : periodBreaks 8 p b ≡ isAnyDay (doseIn p b) s n
+        eight = by-doses 8 (omega arith) (omega arith) ∙ ends.any-day limit n (doseIn p b) s w up
+
+        pub is-8 : isAnyDay (doseIn p b) s n ≡ true → NotYet p b 7 → 8 ≡ ruleOf p b
+        is-8 e y = rule-is 8 (omega arith) (omega arith) (to-8 y) (eight ∙ e)
+
+        module _ (no-8 : isAnyDay (doseIn p b) s n ≡ false) where
+          to-9 : NotYet p b 7 → NotYet p b 9
+          to-9 y = one-on 8 (to-8 y) (eight ∙ no-8)
+
+          n8 : s .rule ≡ 8 → ⊥
+          n8 = ends.never-8 limit n (doseIn p b) s w
+
+          n12 : s .rule ≡ 12 → ⊥
+          n12 = ends.never-12 limit n (doseIn p b) s w
+
+          unbroken : (k : ℕ) → 9 ≤ k → k < 14 → (k ≡ 12 → ⊥) → k < s .rule → periodBreaks k p b ≡ false
+          unbroken k a l m h =
+              by-doses k (omega arith) l ∙
+              ends.unbroken limit n (doseIn p b) s w k (λ (z : k ≡ 7). omega arith) (λ (z : k ≡ 8). omega arith) m (omega arith) h
+
+          broken : s .rule < 14 → periodBreaks (s .rule) p b ≡ true
+          broken l =
+              by-doses (s .rule) (w .least) l ∙ ends.broken limit n (doseIn p b) s w (s .rule) n7 n8 n12 refl l
+
+          -- up to rule 12 the pass has found the lowest
+          to : (m : ℕ) → m ≤ s .rule → m ≤ 12 → NotYet p b 7 → NotYet p b m
+          to m h l y i a k =
+              ⊎-elim
+              (λ (z : 9 ≤ i). unbroken i z (omega arith) (λ (q : i ≡ 12). omega arith) (omega arith))
+              (λ z. to-9 y i a z)
+              (le-or-lt 9 i)
+
+          pub is-found : s .rule < 12 → NotYet p b 7 → s .rule ≡ ruleOf p b
+          is-found l y = rule-is (s .rule) (omega (arith, w .least)) (omega arith) (to (s .rule) (omega arith) (omega arith) y) (broken (omega arith))
+
+          module _ (late : 12 ≤ s .rule) where
+            twelve : periodBreaks 12 p b ≡ isBoth s
+            twelve = by-doses 12 (omega arith) (omega arith) ∙ ends.both limit n (doseIn p b) s w
+
+            pub is-12 : isBoth s ≡ true → NotYet p b 7 → 12 ≡ ruleOf p b
+            is-12 e y = rule-is 12 (omega arith) (omega arith) (to 12 late (omega arith) y) (twelve ∙ e)
+
+            module _ (not-both : isBoth s ≡ false) where
+              to-13 : NotYet p b 7 → NotYet p b 13
+              to-13 y = one-on 12 (to 12 late (omega arith) y) (twelve ∙ not-both)
+
+              pub is-13 : s .rule < 14 → NotYet p b 7 → s .rule ≡ ruleOf p b
+              is-13 l y =
+                  let e : s .rule ≡ 13 = omega (arith, n12) in
+                  rule-is (s .rule) (omega arith) (omega arith) (rw e (to-13 y)) (broken l)
+
+              module _ (last : 14 ≤ s .rule) where
+                to-14 : NotYet p b 7 → NotYet p b 14
+                to-14 y = one-on 13 (to-13 y) (unbroken 13 (omega arith) (omega arith) (λ (z : 13 ≡ 12). omega arith) (omega arith))
+
+                fourteen : periodBreaks 14 p b ≡ isTooMuch s limit
+                fourteen = by-sum ∙ ends.too-much limit n (doseIn p b) s w up
+
+                pub is-14 : isTooMuch s limit ≡ true → NotYet p b 7 → 14 ≡ ruleOf p b
+                is-14 e y = rule-is 14 (omega arith) (omega arith) (to-14 y) (fourteen ∙ e)
+
+                pub is-15 : isTooMuch s limit ≡ false → NotYet p b 7 → 15 ≡ ruleOf p b
+                is-15 e y = none-is (one-on 14 (to-14 y) (fourteen ∙ e))

@@ -1,0 +1,5 @@
+-- Document 01, "Verdict", rules 5 to 14: what one period may break. Turn and Finish say how the code finds it, and state no rule.
+pub mod Doses
+pub mod Period
+pub mod Turn
+pub mod Finish

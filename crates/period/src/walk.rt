@@ -1,0 +1,189 @@
+// The doses of a period, block by block.
+use crate::turn::Walk;
+use crate::turn::begin;
+use crate::turn::from_of;
+use crate::turn::is_asked;
+use crate::turn::is_bad_range;
+use crate::turn::is_crowded;
+use crate::turn::is_timed;
+use crate::turn::turn;
+use plan::Dose;
+use plan::block_of;
+use plan::dose_at;
+use plan::dose_in;
+use plan::dose_of;
+use plan::is_marked;
+ghost use mathlib.Core.Path.{_≡_};
+ghost use Prim.Native.Nat.{_+_, _*_, _≤_, _<_, min};
+ghost use Rattle.plan.specs.Fields.{doseOf, recordAt};
+ghost use Rattle.plan.specs.Periods.{doseIn};
+ghost use Rattle.period.specs.Doses.{twice};
+ghost use Rattle.period.specs.Turn.{sameAmounts, isLike, twiceBack, otherBack, twiceAt, otherAt, lowest, ruleWith, nextRule, Passed};
+
+// Rule 10 on two doses: need marks are disregarded.
+fn is_twice(d: Dose, e: Dose) -> bool
+    ensures { λ r. ⌜ r ≡ twice d e ⌝ }
+{
+    (d.day == e.day) & (d.kind == e.kind) & (is_timed(d) | ((d.kind == 5) & (d.minute == e.minute)))
+}
+
+// Rule 10 on d and the doses from `from` up to dose j. Seldom asked.
+fn is_twice_back(plan: &[u8], b: u8, from: u16, j: u16, d: Dose) -> bool
+    requires { ⌜ from ≤ j ⌝ }
+    ensures { λ r. ⌜ r ≡ twiceBack (doseIn (now (plan .entry)) b) from j d ⌝ }
+{
+    for i in from..j {
+        if is_twice(dose_in(plan, b, i), d) {
+            return true;
+        }
+    }
+    false
+}
+
+fn same_amounts(d: Dose, e: Dose) -> bool
+    ensures { λ r. ⌜ r ≡ sameAmounts d e ⌝ }
+{
+    (d.low == e.low) & (d.high == e.high)
+}
+
+// Two untimed doses of one need mark.
+fn is_like(d: Dose, e: Dose) -> bool
+    ensures { λ r. ⌜ r ≡ isLike d e ⌝ }
+{
+    (d.kind == 0) & (e.kind == 0) & (is_marked(d) == is_marked(e))
+}
+
+// Rule 11 on d and the nearest dose like it, from dose j - 1 back to `from`: the others like it have that one's amounts.
+fn is_other_back(plan: &[u8], b: u8, from: u16, j: u16, d: Dose) -> bool
+    requires { ⌜ from ≤ j ⌝ }
+    ensures { λ r. ⌜ r ≡ otherBack (doseIn (now (plan .entry)) b) from j d ⌝ }
+{
+    for i in 0..(j - from) {
+        let e = dose_in(plan, b, j - 1 - i);
+        if is_like(e, d) {
+            return !same_amounts(e, d);
+        }
+    }
+    false
+}
+
+// Rule 10 on dose j, where no lower rule and not this one is broken yet.
+fn is_twice_at(plan: &[u8], b: u8, s: Walk, d: Dose, j: u16) -> bool
+    requires { ⌜ s .from ≤ j ⌝ }
+    ensures { λ r. ⌜ r ≡ twiceAt (doseIn (now (plan .entry)) b) s d j ⌝ }
+{
+    if (10 < s.rule) & !(d.kind == 0) {
+        return is_twice_back(plan, b, from_of(s, d, j), j, d);
+    }
+    false
+}
+
+// Rule 11 likewise.
+fn is_other_at(plan: &[u8], b: u8, s: Walk, d: Dose, j: u16) -> bool
+    requires { ⌜ s .from ≤ j ⌝ }
+    ensures { λ r. ⌜ r ≡ otherAt (doseIn (now (plan .entry)) b) s d j ⌝ }
+{
+    if (11 < s.rule) & (d.kind == 0) {
+        return is_other_back(plan, b, from_of(s, d, j), j, d);
+    }
+    false
+}
+
+// The lowest broken rule, by the test of each; 14 where none is.
+fn lowest_of(t7: bool, t9: bool, t10: bool, t11: bool, t13: bool) -> u8
+    ensures { λ r. ⌜ r ≡ lowest t7 t9 t10 t11 t13 ⌝ }
+{
+    if t7 {
+        return 7;
+    }
+    if t9 {
+        return 9;
+    }
+    if t10 {
+        return 10;
+    }
+    if t11 {
+        return 11;
+    }
+    if t13 {
+        return 13;
+    }
+    14
+}
+
+// The lowest rule broken with dose j, which is d.
+fn rule_with(plan: &[u8], b: u8, s: Walk, d: Dose, j: u16) -> u8
+    requires { ⌜ s .from ≤ j ⌝ }
+    ensures { λ r. ⌜ r ≡ ruleWith (doseIn (now (plan .entry)) b) s d j ⌝ }
+{
+    let rule = lowest_of(
+        d.day < s.day,
+        is_crowded(s, d, j),
+        is_twice_at(plan, b, s, d, j),
+        is_other_at(plan, b, s, d, j),
+        is_bad_range(d),
+    );
+    if rule < s.rule { rule } else { s.rule }
+}
+
+// The same, at little cost where nothing is to be asked.
+fn next_rule(plan: &[u8], b: u8, s: Walk, d: Dose, j: u16) -> u8
+    requires { ⌜ s .from ≤ j ⌝ }
+    ensures { λ r. ⌜ r ≡ nextRule (doseIn (now (plan .entry)) b) s d j ⌝ }
+{
+    if is_asked(s, d, j) {
+        return rule_with(plan, b, s, d, j);
+    }
+    s.rule
+}
+
+// Dose i of a block. Of a whole block it is read with no test that changes with i.
+fn dose_near(r: &[u8], i: u8) -> Dose
+    requires { ⌜ i < 20 ⌝ }
+    ensures { λ d. ⌜ d ≡ doseOf (recordAt (now (r .entry)) i) ⌝ }
+{
+    if 504 <= r.len() {
+        let at = 24 + (i as usize) * 24;
+        let end = at + 24;
+        return dose_of(&r[at..end]);
+    }
+    dose_at(r, i)
+}
+
+// The first m doses of block q of the period, the pass having come to that block.
+fn walk_block(plan: &[u8], b: u8, q: u16, m: u16, s0: Walk) -> Walk
+    requires { ⌜ (m ≤ 20) × (q * 20 + m ≤ 1515) ⌝ }
+    requires { ⌜ Passed (now plan) b (q * 20) s0 ⌝ }
+    ensures { λ r. ⌜ Passed (now (plan .entry)) b (q * 20 + m) r ⌝ }
+{
+    let r = block_of(plan, (b as u16) + q);
+    let mut s = s0;
+    for i in 0..m {
+        let j = q * 20 + i;
+        let d = dose_near(r, i as u8);
+        let t = turn(s, d, j, next_rule(plan, b, s, d, j));
+        s = t;
+    }
+    s
+}
+
+fn least20(n: u16) -> u16
+    ensures { λ r. ⌜ r ≡ min n 20 ⌝ }
+{
+    if n < 20 { n } else { 20 }
+}
+
+// The pass over the first n doses of the period.
+pub(crate) fn walk_doses(plan: &[u8], b: u8, n: u16) -> Walk
+    requires { ⌜ n ≤ 1515 ⌝ }
+    ensures { λ r. ⌜ Passed (now (plan .entry)) b n r ⌝ }
+{
+    let mut s = begin();
+    let mut q: u16 = 0;
+    while q * 20 < n {
+        let t = walk_block(plan, b, q, least20(n - q * 20), s);
+        s = t;
+        q += 1;
+    }
+    s
+}

@@ -1,0 +1,2 @@
+-- The C calls: what each returns and writes.
+pub mod Calls

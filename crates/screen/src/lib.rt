@@ -1,0 +1,78 @@
+// The calls of the C approval screen. include/chivetassel.h declares them.
+use block::put_long;
+use doses::day_sums;
+use refusal::Refusal;
+use refusal::done;
+use supply::Supply;
+use supply::supply_packed;
+use verdict::Answer;
+use verdict::refusal_of;
+use verdict::verdict;
+ghost use mathlib.Core.Path.{_≡_};
+ghost use mathlib.Core.Bool.{cond};
+ghost use mathlib.Core.List.{[], _∷_};
+ghost use Rattle.verdict.specs.Verdict.{verdictOf, codeOfAnswer};
+ghost use Rattle.doses.specs.Doses.{daySums};
+ghost use Rattle.supply.specs.Supply.{packedSupplyOf};
+ghost use Rattle.screen.specs.Calls.{written, tooShort, code26, supplyCode, supplyOut, sumsOut};
+
+// The verdict on a plan: the number plus 256 times the place.
+#[no_mangle]
+pub extern "C" fn chivetassel_verdict(plan: &[u8]) -> u32
+    ensures { λ r. ⌜ r ≡ codeOfAnswer (verdictOf (now (plan .entry))) ⌝ }
+{
+    refusal_of(verdict(plan)).code()
+}
+
+// Four numbers of 64 bits, least byte first.
+fn put_four(out: &mut [u8], a: u64, b: u64, c: u64, d: u64)
+    ensures { λ _. ⌜ now (out .exit) ≡ written (now (out .entry)) 0 (a ∷ b ∷ c ∷ d ∷ []) ⌝ }
+{
+    put_long(&mut *out, 0, a);
+    put_long(&mut *out, 8, b);
+    put_long(&mut *out, 16, c);
+    put_long(&mut *out, 24, d);
+}
+
+// How far a pack lasts.
+#[no_mangle]
+pub extern "C" fn chivetassel_supply(
+    plan: &[u8],
+    start: u32,
+    pack: u64,
+    choice: u32,
+    pauses: &[u8],
+    out: &mut [u8],
+) -> u32
+    ensures { λ r. ⌜ r ≡ cond (tooShort (now (out .entry))) code26 (supplyCode (packedSupplyOf (now (plan .entry)) start pack choice (now (pauses .entry)))) ⌝ }
+    ensures { λ _. ⌜ now (out .exit) ≡ cond (tooShort (now (out .entry))) (now (out .entry)) (supplyOut (now (out .entry)) (packedSupplyOf (now (plan .entry)) start pack choice (now (pauses .entry)))) ⌝ }
+{
+    if out.len() < 32 {
+        return Refusal::alone(26).code();
+    }
+    match supply_packed(plan, start, pack, choice, pauses) {
+        Supply::Refused(r) => r.code(),
+        Supply::Lasts(x) => {
+            put_four(out, x.days as u64, x.last as u64, x.rest, x.reason as u64);
+            done()
+        }
+    }
+}
+
+// A day's four sums.
+#[no_mangle]
+pub extern "C" fn chivetassel_day_sums(plan: &[u8], day: u32, out: &mut [u8]) -> u32
+    ensures { λ r. ⌜ r ≡ cond (tooShort (now (out .entry))) code26 (codeOfAnswer (verdictOf (now (plan .entry)))) ⌝ }
+    ensures { λ _. ⌜ now (out .exit) ≡ cond (tooShort (now (out .entry))) (now (out .entry)) (sumsOut (now (out .entry)) (verdictOf (now (plan .entry))) (daySums (now (plan .entry)) day)) ⌝ }
+{
+    if out.len() < 32 {
+        return Refusal::alone(26).code();
+    }
+    let answer = verdict(plan);
+    let Answer::Accepted(_) = answer else {
+        return refusal_of(answer).code();
+    };
+    let sums = day_sums(plan, day);
+    put_four(out, sums[0][0], sums[0][1], sums[1][0], sums[1][1]);
+    done()
+}

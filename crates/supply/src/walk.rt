@@ -1,0 +1,123 @@
+// The walk over the days, and the stop day.
+use crate::Lasting;
+use crate::need::need_on;
+use pause::Pause;
+use pause::paused_today;
+use plan::block_of;
+use plan::class_of;
+use plan::is_period;
+use plan::last_of;
+ghost use mathlib.Core.Path.{_≡_};
+ghost use Prim.Native.Nat.{_+_, _-_, _≤_, _<_, min, max};
+ghost use mathlib.Core.Bool.{cond};
+ghost use lib.Dec.{eqb};
+ghost use Rattle.day.specs.Days.{openMark};
+ghost use Rattle.supply.specs.Need.{needOn, isSupplied, stopDay, hasStop};
+ghost use Rattle.supply.specs.Supply.{lastingOf};
+ghost use Rattle.supply.specs.Capped.{cap, Orderly};
+
+// What a day needs, with the pauses.
+fn need_today(plan: &[u8], at: [Pause; 32], choice: u32, day: u32) -> u64
+    requires { ⌜ Orderly (now plan) ⌝ }
+    ensures { λ r. ⌜ r ≡ min cap (needOn choice (now (plan .entry)) at day) ⌝ }
+{
+    if paused_today(at, day) {
+        return 0;
+    }
+    need_on(plan, day, choice)
+}
+
+// Is the period at block b fixed or mixed?
+fn is_supplied(plan: &[u8], b: u8) -> bool
+    ensures { λ r. ⌜ r ≡ isSupplied (now (plan .entry)) b ⌝ }
+{
+    if is_period(plan, b) {
+        let class = class_of(plan, b);
+        return (class == 1) | (class == 3);
+    }
+    false
+}
+
+// The stop day, if there is one.
+pub(crate) struct Stop {
+    pub any: bool,
+    pub day: u32,
+}
+
+fn later(x: u32, y: u32) -> u32
+    ensures { λ r. ⌜ r ≡ max x y ⌝ }
+{
+    if x < y { y } else { x }
+}
+
+// The last day of any fixed or mixed period.
+pub(crate) fn stop_of(plan: &[u8]) -> Stop
+    requires { ⌜ Orderly (now plan) ⌝ }
+    ensures { λ r. ⌜ (r .any ≡ hasStop (now (plan .entry))) × (r .day ≡ stopDay (now (plan .entry))) ⌝ }
+{
+    let n = (plan.len() / 512) as u8;
+    let mut any = false;
+    let mut day: u32 = 0;
+    for b in 0..n {
+        if !is_supplied(plan, b) {
+            continue;
+        }
+        any = true;
+        day = later(day, last_of(block_of(plan, b as u16)));
+    }
+    Stop { any, day }
+}
+
+// Why the walk ended on the stop day.
+fn reason_at(stop: u32) -> u8
+    ensures { λ r. ⌜ r ≡ cond (eqb stop 73048) 3 2 ⌝ }
+{
+    if stop == 73048 { 3 } else { 2 }
+}
+
+// The last of n days from the start on: the open mark where there is none.
+fn last_of_days(start: u32, n: u32) -> u32
+    requires { ⌜ (start ≤ 73048) × (n ≤ 73049) ⌝ }
+    ensures { λ r. ⌜ r ≡ cond (eqb n 0) openMark (start + n - 1) ⌝ }
+{
+    if n == 0 {
+        return 4294967295;
+    }
+    start + n - 1
+}
+
+// How far the pack lasts.
+pub(crate) fn lasting(
+    plan: &[u8],
+    at: [Pause; 32],
+    choice: u32,
+    start: u32,
+    stop: u32,
+    pack: u64,
+) -> Lasting
+    requires { ⌜ Orderly (now plan) ⌝ }
+    requires { ⌜ (start ≤ stop) × (stop ≤ 73048) × (pack < cap) ⌝ }
+    ensures { λ r. ⌜ r ≡ lastingOf (needOn choice (now (plan .entry)) at) start stop pack ⌝ }
+{
+    let mut n: u32 = 0;
+    let mut rest = pack;
+    while n <= stop - start {
+        let need = need_today(plan, at, choice, start + n);
+        if rest < need {
+            return Lasting {
+                days: n,
+                last: last_of_days(start, n),
+                rest,
+                reason: 1,
+            };
+        }
+        rest -= need;
+        n += 1;
+    }
+    Lasting {
+        days: n,
+        last: last_of_days(start, n),
+        rest,
+        reason: reason_at(stop),
+    }
+}

@@ -1,0 +1,9 @@
+-- The laws that the proofs cite.
+pub mod Members
+pub mod Apart
+pub mod Meeting
+pub mod DayAfter
+pub mod Reach
+pub mod Lowest
+pub mod Exactly
+pub mod Passing

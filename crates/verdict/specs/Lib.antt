@@ -1,0 +1,7 @@
+-- Document 01, "Verdict": rules 15 to 17, the order of all rules, and the answer.
+pub mod Coverage
+pub mod Ready
+pub mod Groups
+pub mod Walks
+pub mod Verdict
+pub mod Judging
