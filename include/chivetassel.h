@@ -21,9 +21,34 @@ extern "C" {
 #define CHIVETASSEL_NUMBER(answer) ((answer) & 255u)
 #define CHIVETASSEL_PLACE(answer) ((answer) >> 8 & 255u)
 
+/* A day is a number: 0 is 2000-01-01, the last is 2199-12-31. The open mark stands for "no end" and for "no day". */
+#define CHIVETASSEL_LAST_DAY 73048u
+#define CHIVETASSEL_OPEN 4294967295u
+
+/* Refusals of the calls below, beside the rules 1 to 17 of the verdict. */
+#define CHIVETASSEL_PACK_TOO_LARGE 20u      /* above 1,000,000,000,000 */
+#define CHIVETASSEL_BAD_PAUSES 21u          /* more than 32, one that is no stretch of days, or a length that is no multiple of 8 */
+#define CHIVETASSEL_BAD_START 22u           /* above the last day */
+#define CHIVETASSEL_BAD_CHOICE 23u          /* not 1 or 2 */
+#define CHIVETASSEL_NOTHING_TO_SUPPLY 24u   /* no fixed or mixed period, or the start lies after the stop day */
+#define CHIVETASSEL_SHORT_BUFFER 26u        /* the buffer is too short; given ahead of all else */
+
 /* The verdict on a plan: CHIVETASSEL_DONE exactly where no rule is broken, else the lowest broken rule, 1 to 17, and the
    lowest block that breaks it. */
 uint32_t chivetassel_verdict(const uint8_t *plan, size_t plan_len);
+
+/* How far a pack lasts from day `start` on. Amounts are hundredths of the plan's unit; choice 1 counts low amounts, 2 upper
+   ones. A pause is 8 bytes: its first and its last day, which may be the open mark, 32 bits each, least byte first.
+   `out` has at least 32 bytes and overlaps nothing else. Where the call is not refused, its first 32 bytes get four 64-bit
+   numbers, least byte first: days covered, last covered day (the open mark where there is none), rest, and why it ends
+   (1 the next day needs more than the rest, 2 the stop day is reached, 3 the same and it is the calendar's last day). A
+   refused call writes nothing. */
+uint32_t chivetassel_supply(const uint8_t *plan, size_t plan_len, uint32_t start, uint64_t pack, uint32_t choice,
+                            const uint8_t *pauses, size_t pauses_len, uint8_t *out, size_t out_len);
+
+/* The four sums of a day's doses, into `out` as above: unmarked low, unmarked upper, marked low, marked upper. A plan that is
+   not accepted is refused as by the verdict; a day that no period has gets four zeros. */
+uint32_t chivetassel_day_sums(const uint8_t *plan, size_t plan_len, uint32_t day, uint8_t *out, size_t out_len);
 
 #ifdef __cplusplus
 }

@@ -5,3 +5,4 @@ pub mod Stopping
 pub mod Accepted
 pub mod Refusing
 pub mod Kept
+pub mod Paper
