@@ -1,8 +1,8 @@
 -- The days of the calendar, the open mark, and what each conversion answers.
 use Prim.Native.Nat.{ℕ, _<_}
 use mathlib.Core.Path.{_≡_}
-use mathlib.Core.Bool.{Bool, true, cond}
-use lib.Dec.{eqb, leb}
+use mathlib.Core.Bool.{Bool, true, cond, not, _||_}
+use lib.Dec.{eqb, leb, ltb}
 use Rattle.day.specs.declared.Day.{Day}
 use Rattle.day.specs.declared.Date.{Date}
 use Rattle.day.specs.declared.Named.{Named}
@@ -30,6 +30,11 @@ isDay n = leb n lastNumber
 -- "An open last day counts as 73,048."
 abbrev pub closedDay : ℕ → ℕ
 closedDay n = cond (eqb n openMark) lastNumber n
+
+-- "a day is above 73,048 and not an allowed open mark, or a first day .. lies after its end": from `first` to `end`, which may
+-- be the open mark, is no stretch of days
+abbrev pub isNoSpan : ℕ → ℕ → Bool
+isNoSpan first end = not (isDay first) || not (isDay end || eqb end openMark) || ltb (closedDay end) first
 
 -- the day that a date names: its own, or none where it is no date of the calendar
 abbrev pub namedBy : Date → Named

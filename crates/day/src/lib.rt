@@ -6,7 +6,7 @@ pub use calendar::date_of;
 pub use calendar::day_of;
 ghost use mathlib.Core.Path.{_≡_};
 ghost use lib.Dec.{eqb};
-ghost use Rattle.day.specs.Days.{firstNumber, lastNumber, openMark, isDay, closedDay};
+ghost use Rattle.day.specs.Days.{firstNumber, lastNumber, openMark, isDay, closedDay, isNoSpan};
 
 // A day by its number, or the open mark.
 pub struct Day {
@@ -88,6 +88,15 @@ impl Day {
         }
         self
     }
+}
+
+// Are these no stretch of days of the calendar? The end may be the open mark.
+pub fn is_no_span(first: u32, end: u32) -> bool
+    ensures { λ r. ⌜ r ≡ isNoSpan first end ⌝ }
+{
+    let from = Day::new(first);
+    let to = Day::new(end);
+    !from.is_day() | !(to.is_day() | to.is_open()) | (to.closed().number < first)
 }
 
 impl Date {

@@ -5,14 +5,14 @@ use mathlib.Core.List.{List}
 use lib.Dec.{eqb, ltb}
 use lib.ListN.{length, take, drop}
 use Rattle.below.specs.Below.{anyBelow}
-use Rattle.day.specs.Days.{openMark, isDay}
+use Rattle.day.specs.Days.{isNoSpan}
 use Rattle.block.specs.Bytes.{isZero}
 use Rattle.block.specs.Sums.{sumsRight}
 use Rattle.refusal.specs.declared.Refusal.{Refusal}
 use Rattle.refusal.specs.Refusals.{ruleAt}
 use Rattle.refusal.specs.Order.{lowestRule, lowestBlock}
 use Rattle.plan.specs.declared.Dose.{Dose}
-use Rattle.plan.specs.Fields.{kindOf, countOf, firstOf, endOf, lastOf, vkaOf, recordAt, doseOf}
+use Rattle.plan.specs.Fields.{kindOf, countOf, firstOf, endOf, vkaOf, recordAt, doseOf}
 use Rattle.plan.specs.Periods.{blocksOf, blockAt, isPeriod, isContinuation}
 use Rattle.form.specs.declared.Form.{Form}
 use Rattle.form.specs.declared.Form.the-variants.{Right, Broken}
@@ -39,7 +39,7 @@ misplaced p b = cond (eqb b 0) (noHead p) (not (isPeriod p b || (isContinuation 
 
 -- Rule 4: "a day is above 73,048 and not an allowed open mark, or a first day or treatment start lies after its end"
 abbrev pub daysOut : List ℕ → Bool
-daysOut r = not (isDay (firstOf r)) || not (isDay (endOf r) || eqb (endOf r) openMark) || ltb (lastOf r) (firstOf r)
+daysOut r = isNoSpan (firstOf r) (endOf r)
 
 -- "a zero byte isn't zero": one of the bytes from a up to e, e itself not
 abbrev pub notZero : List ℕ → ℕ → ℕ → Bool

@@ -1,13 +1,12 @@
 // Rule 4: the fields and the zero bytes of one whole block.
 use block::is_zero;
-use day::Day;
+use day::is_no_span;
 use plan::Dose;
 use plan::count_of;
 use plan::dose_of;
 use plan::end_of;
 use plan::first_of;
 use plan::kind_of;
-use plan::last_of;
 use plan::vka_of;
 ghost use mathlib.Core.Path.{_≡_};
 ghost use Prim.Native.Nat.{_≤_, _<_};
@@ -29,9 +28,7 @@ fn not_zero(r: &[u8], a: usize, e: usize) -> bool
 fn days_out(r: &[u8]) -> bool
     ensures { λ t. ⌜ t ≡ daysOut (now (r .entry)) ⌝ }
 {
-    let first = first_of(r);
-    let end = Day::new(end_of(r));
-    !Day::new(first).is_day() | !(end.is_day() | end.is_open()) | (last_of(r) < first)
+    is_no_span(first_of(r), end_of(r))
 }
 
 // The largest minute that goes with a time kind.

@@ -1,12 +1,12 @@
 -- "a list of pause records, each a first and a last day (last may be open), in any order, overlap allowed"
 use Prim.Native.Nat.{ℕ, zero, suc, _+_, _*_, _/_}
-use mathlib.Core.Bool.{Bool, not, _&&_, _||_}
+use mathlib.Core.Bool.{Bool, _&&_, _||_}
 use mathlib.Core.List.{List, [], _∷_, _++_}
-use lib.Dec.{eqb, leb, ltb}
+use lib.Dec.{leb, ltb}
 use lib.ListN.{length, getD}
 use Rattle.below.specs.Below.{anyBelow}
 use Rattle.block.specs.Bytes.{wordAt}
-use Rattle.day.specs.Days.{openMark, isDay, closedDay}
+use Rattle.day.specs.Days.{openMark, closedDay, isNoSpan}
 use Rattle.pause.specs.declared.Pause.{Pause}
 
 -- a record that holds no day: what stands past a list's end
@@ -26,10 +26,7 @@ isPaused xs d = anyBelow (length xs) (λ i. holds (getD xs i noDay) d)
 
 -- "a pause that ends before it starts or has a day above 73,048 other than an open last"
 abbrev pub isOut : Pause → Bool
-isOut x =
-    not (isDay (x .first))
-    || not (isDay (x .last) || eqb (x .last) openMark)
-    || ltb (closedDay (x .last)) (x .first)
+isOut x = isNoSpan (x .first) (x .last)
 
 -- 21: "more than 32 pauses, or a pause that .."
 unfoldable pub areOut : List Pause → Bool

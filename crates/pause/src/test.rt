@@ -1,6 +1,7 @@
 // One pause, on plain numbers.
 use crate::Pause;
 use day::Day;
+use day::is_no_span;
 ghost use mathlib.Core.Path.{_≡_};
 ghost use mathlib.Core.Bool.{_||_};
 ghost use Rattle.pause.specs.Pauses.{isIn, holds, isOut};
@@ -29,7 +30,5 @@ pub(crate) fn or_held(hit: bool, p: Pause, day: u32) -> bool
 pub fn is_out(p: Pause) -> bool
     ensures { λ r. ⌜ r ≡ isOut p ⌝ }
 {
-    let first = Day::new(p.first);
-    let last = Day::new(p.last);
-    !first.is_day() | !(last.is_day() | last.is_open()) | (last.closed().number < p.first)
+    is_no_span(p.first, p.last)
 }

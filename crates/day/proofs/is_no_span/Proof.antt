@@ -1,6 +1,6 @@
 use borrow.Author.Needs.{needs}
-use Rattle.pause.proofs.test.is_out.Statement.{statement}
-use Rattle.pause.proofs.test.is_out.Tie as tie
+use Rattle.day.proofs.is_no_span.Statement.{statement}
+use Rattle.day.proofs.is_no_span.Tie as tie
 
 new-requires : tie.Need-new-requires
 new-requires c κs = search needs
@@ -23,8 +23,8 @@ closed-requires c κs = search needs
 returns : tie.Need-returns
 returns c = cc
 
-pub is-out-spec : {M : Type 1} → statement M
-is-out-spec =
+pub is-no-span-spec : {M : Type 1} → statement M
+is-no-span-spec =
     tie.close
     (tie.spec
     new-requires
