@@ -1,3 +1,4 @@
 -- The laws that other crates' proofs cite.
 pub mod Lists
 pub mod Sums
+pub mod Exact

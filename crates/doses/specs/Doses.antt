@@ -1,13 +1,13 @@
 -- The doses of a day, as a list: what split, supply and the promises are stated over.
 use Prim.Native.Nat.{ℕ, _+_, _-_, _%_, _^_, min}
-use mathlib.Core.Bool.{Bool, cond, _&&_, _||_}
+use mathlib.Core.Bool.{Bool, true, false, cond, _&&_, _||_, Bool·beq}
 use mathlib.Core.List.{List, [], _∷_}
 use lib.Dec.{eqb, leb}
 use lib.ListN.{getD, set}
 use Rattle.plan.specs.declared.Dose.{Dose}
 use Rattle.plan.specs.Fields.{intervalOf, firstOf, lastOf, isMarked, upperOf}
 use Rattle.plan.specs.Periods.{blocksOf, blockAt, isPeriod, dosesOf, doseIn}
-use Rattle.doses.specs.Lists.{pickBelow, joinBelow}
+use Rattle.doses.specs.Lists.{pickBelow, joinBelow, sumOver}
 
 -- the period at block b has day d. "An open last day counts as 73,048."
 abbrev pub covers : List ℕ → ℕ → ℕ → Bool
@@ -49,3 +49,15 @@ noSums = (0 ∷ 0 ∷ []) ∷ (0 ∷ 0 ∷ []) ∷ []
 
 unfoldable pub daySums : List ℕ → ℕ → List (List ℕ)
 daySums p d = addedAll noSums (dosesOn p d)
+
+-- the four sums with nothing dropped: what `daySums` is for a plan of the right form (proofs/Exact.antt)
+abbrev pub share : Bool → (Dose → ℕ) → Dose → ℕ
+share marked amount x = cond (Bool·beq (isMarked x) marked) (amount x) 0
+
+abbrev pub lowOf : Dose → ℕ
+lowOf x = x .low
+
+unfoldable pub exactSums : List Dose → List (List ℕ)
+exactSums xs =
+    (sumOver (share false lowOf) xs ∷ sumOver (share false upperOf) xs ∷ []) ∷
+    (sumOver (share true lowOf) xs ∷ sumOver (share true upperOf) xs ∷ []) ∷ []

@@ -1,3 +1,4 @@
 -- What rules 1 to 4 give the later rules.
 pub mod Laws
 pub mod Formed
+pub mod Ranged

@@ -1,0 +1,2 @@
+-- A law that the calls rest on.
+pub mod Sums
