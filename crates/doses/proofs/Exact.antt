@@ -93,23 +93,19 @@ module _ (p : List ℕ) (d : ℕ) (ok : InRange p) (g : Dose → ℕ) (small : (
       rw (sum-join g (min (blocksOf p) 64) (λ b. cond (covers p d b) (dosesOfPeriod p d b) []))
       (omega (arith, sum-le (λ b. sumOver g (cond (covers p d b) (dosesOfPeriod p d b) [])) 12799999998720 (min (blocksOf p) 64) block-small))
 
-share-low : (m : Bool) (x : Dose) → x .low ≤ 9999999999 → upperOf x ≤ 9999999999 → share m lowOf x ≤ 9999999999
-share-low m x h k =
+share-in : (m : Bool) (g : Dose → ℕ) (x : Dose) → g x ≤ 9999999999 → share m g x ≤ 9999999999
+share-in m g x h =
     ⊎-elim (λ (t : Bool·beq (isMarked x) m ≡ true). rw t h) (λ t. rw t (omega arith)) (bool-cases (Bool·beq (isMarked x) m))
-
-share-upper : (m : Bool) (x : Dose) → x .low ≤ 9999999999 → upperOf x ≤ 9999999999 → share m upperOf x ≤ 9999999999
-share-upper m x h k =
-    ⊎-elim (λ (t : Bool·beq (isMarked x) m ≡ true). rw t k) (λ t. rw t (omega arith)) (bool-cases (Bool·beq (isMarked x) m))
 
 -- nothing is dropped
 pub day-exact : (p : List ℕ) (d : ℕ) → InRange p → daySums p d ≡ exactSums (dosesOn p d)
 unfolding daySums exactSums
 day-exact p d ok =
     let xs = dosesOn p d in
-    let pl = day-small p d ok (share false lowOf) (share-low false) in
-    let pu = day-small p d ok (share false upperOf) (share-upper false) in
-    let nl = day-small p d ok (share true lowOf) (share-low true) in
-    let nu = day-small p d ok (share true upperOf) (share-upper true) in
+    let pl = day-small p d ok (share false lowOf) (λ x h k. share-in false lowOf x h) in
+    let pu = day-small p d ok (share false upperOf) (λ x h k. share-in false upperOf x k) in
+    let nl = day-small p d ok (share true lowOf) (λ x h k. share-in true lowOf x h) in
+    let nu = day-small p d ok (share true upperOf) (λ x h k. share-in true upperOf x k) in
     sums-exact 0 0 0 0 xs
     (record { plain-low = omega arith; plain-upper = omega arith; need-low = omega arith; need-upper = omega arith }) ∙
     same-rows (omega arith) (omega arith) (omega arith) (omega arith)
