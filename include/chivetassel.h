@@ -1,5 +1,5 @@
-/* Chivetassel for C: dosage plans judged by the rules of document 01. The calls are in the crate `screen`: its static
-   library, target/staticlib/libscreen.a, is for x86-64 and needs nothing but the C library.
+/* Chivetassel for C: dosage plans judged by the rules of document 01. The calls are in the crate `screen`:
+   `rt staticlib screen` proves it and writes target/staticlib/libscreen.a, for x86-64, which needs nothing but the C library.
 
    Every call takes every input: nothing need be checked before. A plan is its bytes and their number; with a length of 0
    the pointer may be NULL. Calls keep no state and may be made from several threads at once.
