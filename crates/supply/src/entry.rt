@@ -31,8 +31,9 @@ fn supply_from(
     judged(plan, start, pack, choice, out, at)
 }
 
-// How far a pack lasts, with the pauses by value.
-pub fn supply_kept(plan: &[u8], start: u32, pack: u64, choice: u32, pauses: Pauses) -> Supply
+// How far a pack lasts, with the pauses by value. Only for `supply_of`: a count and records that do not belong together mean
+// nothing in document 01.
+pub(crate) fn supply_kept(plan: &[u8], start: u32, pack: u64, choice: u32, pauses: Pauses) -> Supply
     ensures { λ r. ⌜ r ≡ passedOn (verdictOf (now (plan .entry))) (judgedOf (now (plan .entry)) start pack choice (areOutIn pauses) (pauses .at)) ⌝ }
 {
     let out = are_out(pauses);

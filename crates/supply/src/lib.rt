@@ -5,7 +5,6 @@ mod lent;
 mod need;
 mod walk;
 
-pub use entry::supply_kept;
 pub use entry::supply_packed;
 pub use lent::supply_of;
 use refusal::Refusal;
