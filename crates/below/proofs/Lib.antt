@@ -2,3 +2,4 @@
 pub mod Tests
 pub mod Search
 pub mod Total
+pub mod Lists

@@ -11,8 +11,8 @@ use Rattle.plan.specs.Fields.{isMarked, upperOf}
 use Rattle.plan.specs.Periods.{blocksOf, blockAt, isPeriod, dosesOf, doseIn}
 use Rattle.plan.specs.declared.Dose.{Dose}
 use Rattle.doses.specs.Doses.{covers, positionOf, applies, dosesOfPeriod, dosesOn, added, addedAll, daySums, share, lowOf, exactSums}
-use Rattle.doses.specs.Lists.{sumOver}
-use Rattle.doses.proofs.Lists.{sum-pick, sum-join}
+use Rattle.below.specs.Lists.{sumOver}
+use Rattle.below.proofs.Lists.{sum-pick, sum-join}
 
 -- the four sums from a, b, c and d on, where they fit
 module _ (a b c d : ℕ) (xs : List Dose) where

@@ -5,8 +5,8 @@ use mathlib.Core.List.{List, [], _∷_, _++_, append-nil}
 use mathlib.Core.Path.{_≡_, refl}
 use Rattle.plan.specs.declared.Dose.{Dose}
 use Rattle.doses.specs.Doses.{added, addedAll}
-use Rattle.doses.specs.Lists.{pickBelow, joinBelow}
-use Rattle.doses.proofs.Lists.{pick-more, join-more}
+use Rattle.below.specs.Lists.{pickBelow, joinBelow}
+use Rattle.below.proofs.Lists.{pick-more, join-more}
 
 pub added-append : (s : List (List ℕ)) (xs ys : List Dose) → addedAll s (xs ++ ys) ≡ addedAll (addedAll s xs) ys
 unfolding addedAll

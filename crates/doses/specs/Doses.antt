@@ -7,7 +7,7 @@ use lib.ListN.{getD, set}
 use Rattle.plan.specs.declared.Dose.{Dose}
 use Rattle.plan.specs.Fields.{intervalOf, firstOf, lastOf, isMarked, upperOf}
 use Rattle.plan.specs.Periods.{blocksOf, blockAt, isPeriod, dosesOf, doseIn}
-use Rattle.doses.specs.Lists.{pickBelow, joinBelow, sumOver}
+use Rattle.below.specs.Lists.{pickBelow, joinBelow, sumOver}
 
 -- the period at block b has day d. "An open last day counts as 73,048."
 abbrev pub covers : List ℕ → ℕ → ℕ → Bool

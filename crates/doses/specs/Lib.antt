@@ -1,3 +1,2 @@
 -- Document 01, "A day's doses".
-pub mod Lists
 pub mod Doses

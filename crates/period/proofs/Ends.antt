@@ -13,7 +13,8 @@ use Rattle.below.proofs.Tests.{bool-cases, true-not-false, bool-iff, and-both, 
 use Rattle.plan.specs.declared.Dose.{Dose}
 use Rattle.plan.specs.Fields.{isMarked}
 use Rattle.period.specs.declared.turn.Walk.{Walk}
-use Rattle.period.specs.Doses.{falls, passes, anyDayUnmarked, besideAnyDay, isTimed, isUntimed, bothKinds, doseBreaks, tooMuch}
+use Rattle.period.specs.Doses.{falls, passes, anyDayUnmarked, besideAnyDay, isTimed, isUntimed, twice, bothKinds, doseBreaks, tooMuch}
+use Rattle.period.specs.Twice.{hasTwice, Rising}
 use Rattle.period.specs.Finish.{isPast, isAnyDay, isBoth, roundBy, isTooMuch}
 use Rattle.period.proofs.Counts.{any-count, any-not-count}
 use Rattle.period.proofs.Walked.{passBreaks, Walked}
@@ -46,11 +47,11 @@ by-2048 r x y =
     (λ e. le-leb (100000000000 * r) (2048 * x + y) (omega (arith, leb-true (48828125 * r) (x + y / 2048) e)))
 
 module _ (limit n : ℕ) (D : ℕ → Dose) (s : Walk) (w : Walked D n s) where
-  -- rules 9, 10, 11 and 13 are what the pass looked for
-  module _ (k : ℕ) (n7 : k ≡ 7 → ⊥) (n8 : k ≡ 8 → ⊥) (n12 : k ≡ 12 → ⊥) where
+  -- rules 9, 11 and 13 are what the pass looked for
+  module _ (k : ℕ) (n7 : k ≡ 7 → ⊥) (n8 : k ≡ 8 → ⊥) (n10 : k ≡ 10 → ⊥) (n12 : k ≡ 12 → ⊥) where
     same-break : (j : ℕ) → doseBreaks limit k D j ≡ passBreaks D k j
     unfolding doseBreaks
-    same-break j = rw (ne-eqb k 7 n7, ne-eqb k 8 n8, ne-eqb k 12 n12)
+    same-break j = rw (ne-eqb k 7 n7, ne-eqb k 8 n8, ne-eqb k 10 n10, ne-eqb k 12 n12)
 
     pub unbroken : 7 ≤ k → k < s .rule → anyBelow n (doseBreaks limit k D) ≡ false
     unbroken a l = any-none (doseBreaks limit k D) (λ j m. same-break j ∙ w .lower k a l j m)
@@ -60,12 +61,25 @@ module _ (limit n : ℕ) (D : ℕ → Dose) (s : Walk) (w : Walked D n s) where
         let x = any-some (passBreaks D k) n (rw e (w .hit (omega arith))) in
         any-hit (doseBreaks limit k D) (x .1) (same-break (x .0) ∙ x .2)
 
-  -- rules 8 and 12 are none of those
+  -- rules 8, 10 and 12 are none of those
   pub never-8 : s .rule ≡ 8 → ⊥
   never-8 e = let x = any-some (passBreaks D 8) n (rw e at (w .hit (omega arith))) in true-not-false (x .2) refl
 
+  pub never-10 : s .rule ≡ 10 → ⊥
+  never-10 e = let x = any-some (passBreaks D 10) n (rw e at (w .hit (omega arith))) in true-not-false (x .2) refl
+
   pub never-12 : s .rule ≡ 12 → ⊥
   never-12 e = let x = any-some (passBreaks D 12) n (rw e at (w .hit (omega arith))) in true-not-false (x .2) refl
+
+  -- rule 10
+  pub ten : anyBelow n (doseBreaks limit 10 D) ≡ hasTwice D n
+  unfolding hasTwice doseBreaks
+  ten = refl
+
+  -- it need not be asked where ranks rise
+  pub not-again : s .again ≡ false → hasTwice D n ≡ false
+  unfolding hasTwice
+  not-again e = any-none (λ (j : ℕ). anyBelow j (λ i. twice (D i) (D j))) (w .again e)
 
   -- a day number has fallen
   pub fallen : s .rule ≡ 7 → anyBelow n (doseBreaks limit 7 D) ≡ true
@@ -124,7 +138,7 @@ module _ (limit n : ℕ) (D : ℕ → Dose) (s : Walk) (w : Walked D n s) where
         let h : D (i + k) .day ≤ D (i + suc k) .day = ltb-false _ _ (rw e at g) in
         omega (arith, rise i k (omega arith))
 
-    rises : (i j : ℕ) → i ≤ j → j < n → D i .day ≤ D j .day
+    pub rises : Rising D n
     rises i j a l = let e : i + (j - i) ≡ j = omega arith in rw e at (rise i (j - i) (omega arith))
 
     to-last : (i : ℕ) → i < n → D i .day ≤ s .day

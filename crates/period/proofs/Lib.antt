@@ -8,5 +8,6 @@ mod Steps
 mod Lowest
 mod Rank
 mod Walked
+mod Seen
 mod Ends
 mod Ruling

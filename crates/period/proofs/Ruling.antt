@@ -17,6 +17,7 @@ use Rattle.period.specs.declared.turn.Walk.{Walk}
 use Rattle.period.specs.Doses.{doseBreaks, tooMuch}
 use Rattle.period.specs.Period.{outside, early, limitOf, periodBreaks, ruleOf}
 use Rattle.period.specs.Turn.{Passed}
+use Rattle.period.specs.Twice.{hasTwice, Rising}
 use Rattle.period.specs.Finish.{isPast, isAnyDay, isBoth, isTooMuch, NotYet}
 use Rattle.period.proofs.Counts.{any-count, any-not-count}
 use Rattle.period.proofs.Walked.{Walked, walked}
@@ -73,6 +74,13 @@ module _ (p : List ℕ) (b : ℕ) where
       let w : Walked (doseIn p b) n s = rw (done .kept) (walked (doseIn p b) n) in
       rw (← counts, any-not-count marked n, any-count marked n, w .marked)
 
+  -- what rule 10's search counts on, and where it need not be made
+  pub rises : {n : ℕ} {s : Walk} → Passed p b n s → 7 < s .rule → Rising (doseIn p b) n
+  rises {n} {s} done up = ends.rises 0 n (doseIn p b) s (rw (done .kept) (walked (doseIn p b) n)) up
+
+  pub not-again : {n : ℕ} {s : Walk} → Passed p b n s → s .again ≡ false → hasTwice (doseIn p b) n ≡ false
+  not-again {n} {s} done = ends.not-again 0 n (doseIn p b) s (rw (done .kept) (walked (doseIn p b) n))
+
   module _ {limit n : ℕ} {s : Walk} (limits : limit ≡ limitOf (blockAt p b)) (counts : n ≡ dosesOf p b) (done : Passed p b n s) where
     w : Walked (doseIn p b) n s
     w = rw (done .kept) (walked (doseIn p b) n)
@@ -116,54 +124,73 @@ module _ (p : List ℕ) (b : ℕ) where
           n8 : s .rule ≡ 8 → ⊥
           n8 = ends.never-8 limit n (doseIn p b) s w
 
+          n10 : s .rule ≡ 10 → ⊥
+          n10 = ends.never-10 limit n (doseIn p b) s w
+
           n12 : s .rule ≡ 12 → ⊥
           n12 = ends.never-12 limit n (doseIn p b) s w
 
-          unbroken : (k : ℕ) → 9 ≤ k → k < 14 → (k ≡ 12 → ⊥) → k < s .rule → periodBreaks k p b ≡ false
-          unbroken k a l m h =
+          unbroken : (k : ℕ) → 9 ≤ k → k < 14 → (k ≡ 10 → ⊥) → (k ≡ 12 → ⊥) → k < s .rule → periodBreaks k p b ≡ false
+          unbroken k a l m10 m12 h =
               by-doses k (omega arith) l ∙
-              ends.unbroken limit n (doseIn p b) s w k (λ (z : k ≡ 7). omega arith) (λ (z : k ≡ 8). omega arith) m (omega arith) h
+              ends.unbroken limit n (doseIn p b) s w k (λ (z : k ≡ 7). omega arith) (λ (z : k ≡ 8). omega arith) m10 m12 (omega arith) h
 
           broken : s .rule < 14 → periodBreaks (s .rule) p b ≡ true
           broken l =
-              by-doses (s .rule) (w .least) l ∙ ends.broken limit n (doseIn p b) s w (s .rule) n7 n8 n12 refl l
+              by-doses (s .rule) (w .least) l ∙ ends.broken limit n (doseIn p b) s w (s .rule) n7 n8 n10 n12 refl l
 
-          -- up to rule 12 the pass has found the lowest
-          to : (m : ℕ) → m ≤ s .rule → m ≤ 12 → NotYet p b 7 → NotYet p b m
-          to m h l y i a k =
-              ⊎-elim
-              (λ (z : 9 ≤ i). unbroken i z (omega arith) (λ (q : i ≡ 12). omega arith) (omega arith))
-              (λ z. to-9 y i a z)
-              (le-or-lt 9 i)
+          pub is-9 : s .rule < 10 → NotYet p b 7 → s .rule ≡ ruleOf p b
+          is-9 l y =
+              let e : s .rule ≡ 9 = omega (arith, n8, up) in
+              rule-is (s .rule) (omega arith) (omega arith) (rw e (to-9 y)) (broken (omega arith))
 
-          pub is-found : s .rule < 12 → NotYet p b 7 → s .rule ≡ ruleOf p b
-          is-found l y = rule-is (s .rule) (omega (arith, w .least)) (omega arith) (to (s .rule) (omega arith) (omega arith) y) (broken (omega arith))
+          module _ (late-10 : 10 ≤ s .rule) where
+            to-10 : NotYet p b 7 → NotYet p b 10
+            to-10 y = one-on 9 (to-9 y) (unbroken 9 (omega arith) (omega arith) (λ (z : 9 ≡ 10). omega arith) (λ (z : 9 ≡ 12). omega arith) (omega arith))
 
-          module _ (late : 12 ≤ s .rule) where
-            twelve : periodBreaks 12 p b ≡ isBoth s
-            twelve = by-doses 12 (omega arith) (omega arith) ∙ ends.both limit n (doseIn p b) s w
+            ten : periodBreaks 10 p b ≡ hasTwice (doseIn p b) n
+            ten = by-doses 10 (omega arith) (omega arith) ∙ ends.ten limit n (doseIn p b) s w
 
-            pub is-12 : isBoth s ≡ true → NotYet p b 7 → 12 ≡ ruleOf p b
-            is-12 e y = rule-is 12 (omega arith) (omega arith) (to 12 late (omega arith) y) (twelve ∙ e)
+            pub is-10 : hasTwice (doseIn p b) n ≡ true → NotYet p b 7 → 10 ≡ ruleOf p b
+            is-10 e y = rule-is 10 (omega arith) (omega arith) (to-10 y) (ten ∙ e)
 
-            module _ (not-both : isBoth s ≡ false) where
-              to-13 : NotYet p b 7 → NotYet p b 13
-              to-13 y = one-on 12 (to 12 late (omega arith) y) (twelve ∙ not-both)
+            module _ (no-10 : hasTwice (doseIn p b) n ≡ false) where
+              to-11 : NotYet p b 7 → NotYet p b 11
+              to-11 y = one-on 10 (to-10 y) (ten ∙ no-10)
 
-              pub is-13 : s .rule < 14 → NotYet p b 7 → s .rule ≡ ruleOf p b
-              is-13 l y =
-                  let e : s .rule ≡ 13 = omega (arith, n12) in
-                  rule-is (s .rule) (omega arith) (omega arith) (rw e (to-13 y)) (broken l)
+              pub is-11 : s .rule < 12 → NotYet p b 7 → s .rule ≡ ruleOf p b
+              is-11 l y =
+                  let e : s .rule ≡ 11 = omega (arith, n10) in
+                  rule-is (s .rule) (omega arith) (omega arith) (rw e (to-11 y)) (broken (omega arith))
 
-              module _ (last : 14 ≤ s .rule) where
-                to-14 : NotYet p b 7 → NotYet p b 14
-                to-14 y = one-on 13 (to-13 y) (unbroken 13 (omega arith) (omega arith) (λ (z : 13 ≡ 12). omega arith) (omega arith))
+              module _ (late : 12 ≤ s .rule) where
+                to-12 : NotYet p b 7 → NotYet p b 12
+                to-12 y = one-on 11 (to-11 y) (unbroken 11 (omega arith) (omega arith) (λ (z : 11 ≡ 10). omega arith) (λ (z : 11 ≡ 12). omega arith) (omega arith))
 
-                fourteen : periodBreaks 14 p b ≡ isTooMuch s limit
-                fourteen = by-sum ∙ ends.too-much limit n (doseIn p b) s w up
+                twelve : periodBreaks 12 p b ≡ isBoth s
+                twelve = by-doses 12 (omega arith) (omega arith) ∙ ends.both limit n (doseIn p b) s w
 
-                pub is-14 : isTooMuch s limit ≡ true → NotYet p b 7 → 14 ≡ ruleOf p b
-                is-14 e y = rule-is 14 (omega arith) (omega arith) (to-14 y) (fourteen ∙ e)
+                pub is-12 : isBoth s ≡ true → NotYet p b 7 → 12 ≡ ruleOf p b
+                is-12 e y = rule-is 12 (omega arith) (omega arith) (to-12 y) (twelve ∙ e)
 
-                pub is-15 : isTooMuch s limit ≡ false → NotYet p b 7 → 15 ≡ ruleOf p b
-                is-15 e y = none-is (one-on 14 (to-14 y) (fourteen ∙ e))
+                module _ (not-both : isBoth s ≡ false) where
+                  to-13 : NotYet p b 7 → NotYet p b 13
+                  to-13 y = one-on 12 (to-12 y) (twelve ∙ not-both)
+
+                  pub is-13 : s .rule < 14 → NotYet p b 7 → s .rule ≡ ruleOf p b
+                  is-13 l y =
+                      let e : s .rule ≡ 13 = omega (arith, n12) in
+                      rule-is (s .rule) (omega arith) (omega arith) (rw e (to-13 y)) (broken l)
+
+                  module _ (last : 14 ≤ s .rule) where
+                    to-14 : NotYet p b 7 → NotYet p b 14
+                    to-14 y = one-on 13 (to-13 y) (unbroken 13 (omega arith) (omega arith) (λ (z : 13 ≡ 10). omega arith) (λ (z : 13 ≡ 12). omega arith) (omega arith))
+
+                    fourteen : periodBreaks 14 p b ≡ isTooMuch s limit
+                    fourteen = by-sum ∙ ends.too-much limit n (doseIn p b) s w up
+
+                    pub is-14 : isTooMuch s limit ≡ true → NotYet p b 7 → 14 ≡ ruleOf p b
+                    is-14 e y = rule-is 14 (omega arith) (omega arith) (to-14 y) (fourteen ∙ e)
+
+                    pub is-15 : isTooMuch s limit ≡ false → NotYet p b 7 → 15 ≡ ruleOf p b
+                    is-15 e y = none-is (one-on 14 (to-14 y) (fourteen ∙ e))

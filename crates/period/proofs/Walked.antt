@@ -18,19 +18,18 @@ use Rattle.plan.specs.declared.Dose.{Dose}
 use Rattle.plan.specs.Fields.{isMarked}
 use Rattle.period.specs.declared.turn.Walk.{Walk}
 use Rattle.period.specs.Doses.{falls, sameDay, isTimed, isUntimed, twice, otherAmounts, badRange, unmarkedUpper, unmarkedDay}
-use Rattle.period.specs.Turn.{rankOf, fromOf, isCrowded, isAsked, twiceBack, sameAmounts, isLike, otherBack, twiceAt, otherAt, lowest, ruleWith, nextRule, begun, turned, walkedTo}
+use Rattle.period.specs.Turn.{rankOf, fromOf, isCrowded, isAsked, sameAmounts, isLike, otherBack, otherAt, lowest, ruleWith, nextRule, begun, turned, walkedTo}
 use Rattle.period.proofs.Choice.{cond-le, larger}
 use Rattle.period.proofs.Counts.{count-from}
 use Rattle.period.proofs.Lowest.{testOf, lowest-is, same-tests, no-test}
 use Rattle.period.proofs.Rank.{rank-day, twice-is, Others, others, other-of, other-rank, like-like, amounts-on}
 
 module _ (D : ℕ → Dose) where
-  -- dose j breaks rule k with those ahead of it; rules 8 and 12, and the second half of 7, are read off at the end
+  -- dose j breaks rule k with those ahead of it; rules 8, 10 and 12, and the second half of 7, are asked at the end
   abbrev pub passBreaks : ℕ → ℕ → Bool
   passBreaks k j =
       testOf (falls D j)
       (leb 99 (countBelow j (λ i. sameDay (D i) (D j))))
-      (anyBelow j (λ i. twice (D i) (D j)))
       (anyBelow j (λ i. otherAmounts (D i) (D j)))
       (badRange (D j))
       k
@@ -55,6 +54,8 @@ module _ (D : ℕ → Dose) where
     pub sum : 2048 * s .big + s .small ≡ sumBelow j (λ i. unmarkedUpper (D i))
     pub least : 7 ≤ s .rule
     pub most : s .rule ≤ 14
+    -- while ranks rise no time stands twice
+    pub again : s .again ≡ false → NoneBelow (λ k. anyBelow k (λ i. twice (D i) (D k))) j
     -- no dose breaks a rule below s .rule, and one breaks that
     pub lower : (k : ℕ) → 7 ≤ k → k < s .rule → NoneBelow (passBreaks k) j
     pub hit : s .rule < 14 → anyBelow j (passBreaks (s .rule)) ≡ true
@@ -73,6 +74,7 @@ module _ (D : ℕ → Dose) where
         sum = sym (sum-zero _);
         least = omega arith;
         most = omega arith;
+        again = λ e i l. absurd (omega arith);
         lower = λ k a b i l. absurd (omega arith);
         hit = λ l. absurd (omega arith);
         days = λ l. record {
@@ -133,21 +135,6 @@ module _ (D : ℕ → Dose) where
       same-from : (i : ℕ) → D i .day ≡ D j .day → from ≤ i
       same-from i e =
           ⊎-elim (λ (h : from ≤ i). h) (λ h. absurd (omega (arith, ahead i h))) (le-or-lt from i)
-
-      twice-at : 10 < s .rule → twiceAt D s (D j) j ≡ anyBelow j (λ i. twice (D i) (D j))
-      unfolding twiceBack
-      twice-at l =
-          let found : ℕ → Bool = λ i. leb from i && twice (D i) (D j) in
-          bool-iff (twiceAt D s (D j) j) (anyBelow j (λ i. twice (D i) (D j)))
-          (λ e.
-          let x = any-some found j (and-both (ltb 10 (s .rule) && not (isUntimed (D j))) (anyBelow j found) e .1) in
-          any-hit (λ (i : ℕ). twice (D i) (D j)) (x .1) (and-both (leb from (x .0)) (twice (D (x .0)) (D j)) (x .2) .1))
-          (λ e.
-          let x = any-some (λ (i : ℕ). twice (D i) (D j)) j e in
-          let y = twice-is (D (x .0)) (D j) (x .2) in
-          let z : anyBelow j found ≡ true =
-          any-hit found (x .1) (both-and (le-leb from (x .0) (same-from (x .0) (y .day))) (x .2)) in
-          rw (lt-ltb 10 (s .rule) l, y .timed) z)
 
       -- rule 11 is not broken yet, so that doses like each other in a day have the same amounts
       still-other : 11 < s .rule → (i n : ℕ) → i ≤ n → n < j → Others (D i) (D j) → isLike (D n) (D j) ≡ true → D n .day ≡ D j .day → sameAmounts (D n) (D j) ≡ false
@@ -211,20 +198,18 @@ module _ (D : ℕ → Dose) where
     -- the code's tests are the rules', as far as they count
     abbrev codeBreaks : ℕ → Bool
     codeBreaks k =
-        testOf (ltb (D j .day) (s .day)) (isCrowded s (D j) j) (twiceAt D s (D j) j) (otherAt D s (D j) j) (badRange (D j)) k
+        testOf (ltb (D j .day) (s .day)) (isCrowded s (D j) j) (otherAt D s (D j) j) (badRange (D j)) k
 
     agree : (k : ℕ) → k < s .rule → (7 < k → ltb (D j .day) (s .day) ≡ false) → codeBreaks k ≡ passBreaks k j
     agree k l up =
-        same-tests (ltb (D j .day) (s .day)) (isCrowded s (D j) j) (twiceAt D s (D j) j) (otherAt D s (D j) j) (badRange (D j))
+        same-tests (ltb (D j .day) (s .day)) (isCrowded s (D j) j) (otherAt D s (D j) j) (badRange (D j))
         (falls D j)
         (leb 99 (countBelow j (λ i. sameDay (D i) (D j))))
-        (anyBelow j (λ i. twice (D i) (D j)))
         (anyBelow j (λ i. otherAmounts (D i) (D j)))
         (badRange (D j))
         k
         (λ e. sym falls-is)
         (λ e. crowded-is (up (omega arith)) (w .days (omega arith)))
-        (λ e. twice-at (up (omega arith)) (w .days (omega arith)) (omega arith))
         (λ e. other-at (up (omega arith)) (w .days (omega arith)) (omega arith))
         (λ e. refl)
 
@@ -239,8 +224,8 @@ module _ (D : ℕ → Dose) where
     asked : Next (ruleWith D s (D j) j)
     unfolding ruleWith
     asked =
-        let m = lowest (ltb (D j .day) (s .day)) (isCrowded s (D j) j) (twiceAt D s (D j) j) (otherAt D s (D j) j) (badRange (D j)) in
-        let f = lowest-is (ltb (D j .day) (s .day)) (isCrowded s (D j) j) (twiceAt D s (D j) j) (otherAt D s (D j) j) (badRange (D j)) in
+        let m = lowest (ltb (D j .day) (s .day)) (isCrowded s (D j) j) (otherAt D s (D j) j) (badRange (D j)) in
+        let f = lowest-is (ltb (D j .day) (s .day)) (isCrowded s (D j) j) (otherAt D s (D j) j) (badRange (D j)) in
         ⊎-elim
         (λ (t : ltb m (s .rule) ≡ true).
         let l : m < s .rule = ltb-true _ _ t in
@@ -275,15 +260,11 @@ module _ (D : ℕ → Dose) where
         (le-or-lt j 0)) in
         no-test (falls D j)
         (leb 99 (countBelow j (λ i. sameDay (D i) (D j))))
-        (anyBelow j (λ i. twice (D i) (D j)))
         (anyBelow j (λ i. otherAmounts (D i) (D j)))
         (badRange (D j))
         k
         (λ e. falls-is ∙ up)
         (λ e. sym (crowded-is up (w .days (omega arith))) ∙ y .1)
-        (λ e.
-        any-none (λ (i : ℕ). twice (D i) (D j)) (λ i m.
-        not-true-false (twice (D i) (D j)) (λ z. omega (arith, twice-is (D i) (D j) z .rank, w .tops i m))))
         (λ e.
         any-none (λ (i : ℕ). otherAmounts (D i) (D j)) (λ i m.
         not-true-false (otherAmounts (D i) (D j)) (λ z. omega (arith, other-rank (D i) (D j) z, w .tops i m))))
@@ -321,6 +302,15 @@ module _ (D : ℕ → Dose) where
           most-le = cond-le (isMarked (D j)) (omega (arith, t .most-le)) (omega arith);
         }
 
+    -- dose j has a higher rank than those ahead of it, or no time
+    alone : (not (isUntimed (D j)) && leb (rankOf (D j)) (s .top)) ≡ false → anyBelow j (λ i. twice (D i) (D j)) ≡ false
+    alone e =
+        any-none (λ (i : ℕ). twice (D i) (D j)) (λ i m.
+        not-true-false (twice (D i) (D j)) (λ z.
+        let y = twice-is (D i) (D j) z in
+        let high : s .top < rankOf (D j) = leb-false _ _ (rw (y .timed) at e) in
+        omega (arith, y .rank, w .tops i m)))
+
     -- one dose more
     pub goes-on : Walked (j + 1) (turned s (D j) j (nextRule D s (D j) j))
     unfolding turned
@@ -342,6 +332,9 @@ module _ (D : ℕ → Dose) where
           sum = rw (sum-more (λ (i : ℕ). unmarkedUpper (D i)) j) (omega (arith, w .sum));
           least = n .least;
           most = omega (arith, n .le, w .most);
+          again = λ e.
+              let x = or-neither (s .again) (not (isUntimed (D j)) && leb (rankOf (D j)) (s .top)) e in
+              none-more (λ (k : ℕ). anyBelow k (λ i. twice (D i) (D k))) (w .again (x .0)) (alone (x .1));
           lower = λ k a b. none-more (passBreaks k) (w .lower k a (omega (arith, n .le))) (n .below k a b);
           hit = λ l.
               ⊎-elim

@@ -1,16 +1,16 @@
 -- The one pass over a period's doses D 0, D 1, .., as the code makes it. No rule is stated here: proofs/Walked.antt shows that
 -- what the pass keeps is what the rules of Doses say.
 use Prim.Native.Nat.{ℕ, zero, suc, _+_, _-_, _*_, _/_, _%_, _≤_, min}
-use mathlib.Core.Bool.{Bool, cond, not, _&&_, _||_, Bool·beq}
+use mathlib.Core.Bool.{Bool, false, cond, not, _&&_, _||_, Bool·beq}
 use mathlib.Core.List.{List}
 use mathlib.Core.Path.{_≡_}
 use lib.Dec.{eqb, leb, ltb}
-use Rattle.below.specs.Below.{anyBelow, firstBelow}
+use Rattle.below.specs.Below.{firstBelow}
 use Rattle.plan.specs.declared.Dose.{Dose}
 use Rattle.plan.specs.Fields.{isMarked}
 use Rattle.plan.specs.Periods.{doseIn}
 use Rattle.period.specs.declared.turn.Walk.{Walk}
-use Rattle.period.specs.Doses.{isTimed, isUntimed, twice, badRange, unmarkedUpper}
+use Rattle.period.specs.Doses.{isTimed, isUntimed, badRange, unmarkedUpper}
 
 -- a dose's time as a number: the kind for kinds 1 to 4, the minute and 5 for a clock dose (a minute is at most 65,535), and
 -- another number for the rest
@@ -33,10 +33,6 @@ isCrowded s d j = leb 99 (j - fromOf s d j)
 abbrev pub isAsked : Walk → Dose → ℕ → Bool
 isAsked s d j = leb (rankOf d) (s .top) || isCrowded s d j || badRange d
 
--- d is twice with one of the doses from `from` up to j
-unfoldable pub twiceBack : (ℕ → Dose) → ℕ → ℕ → Dose → Bool
-twiceBack D from j d = anyBelow j (λ i. leb from i && twice (D i) d)
-
 -- both amounts are the same
 abbrev pub sameAmounts : Dose → Dose → Bool
 sameAmounts d e = eqb (d .low) (e .low) && eqb (d .high) (e .high)
@@ -55,16 +51,13 @@ otherBack D from j d =
     let k = likeBack D from j d in
     ltb k (j - from) && not (sameAmounts (D (j - 1 - k)) d)
 
--- dose j breaks rule 10, or rule 11, asked only while it can still be the lowest
-abbrev pub twiceAt : (ℕ → Dose) → Walk → Dose → ℕ → Bool
-twiceAt D s d j = ltb 10 (s .rule) && not (isUntimed d) && twiceBack D (fromOf s d j) j d
-
+-- dose j breaks rule 11, asked only while that can still be the lowest
 abbrev pub otherAt : (ℕ → Dose) → Walk → Dose → ℕ → Bool
 otherAt D s d j = ltb 11 (s .rule) && isUntimed d && otherBack D (fromOf s d j) j d
 
--- the lowest broken of rules 7, 9, 10, 11 and 13, by the test of each; 14 where none is
-abbrev pub lowest : Bool → Bool → Bool → Bool → Bool → ℕ
-lowest t7 t9 t10 t11 t13 = cond t7 7 (cond t9 9 (cond t10 10 (cond t11 11 (cond t13 13 14))))
+-- the lowest broken of rules 7, 9, 11 and 13, by the test of each; 14 where none is
+abbrev pub lowest : Bool → Bool → Bool → Bool → ℕ
+lowest t7 t9 t11 t13 = cond t7 7 (cond t9 9 (cond t11 11 (cond t13 13 14)))
 
 -- the lower of two rules
 abbrev pub lower : ℕ → ℕ → ℕ
@@ -74,7 +67,7 @@ lower x y = cond (ltb x y) x y
 unfoldable pub ruleWith : (ℕ → Dose) → Walk → Dose → ℕ → ℕ
 ruleWith D s d j =
     lower
-    (lowest (ltb (d .day) (s .day)) (isCrowded s d j) (twiceAt D s d j) (otherAt D s d j) (badRange d))
+    (lowest (ltb (d .day) (s .day)) (isCrowded s d j) (otherAt D s d j) (badRange d))
     (s .rule)
 
 -- the same, with the tests made only where dose j may break one
@@ -94,6 +87,7 @@ begun =
       big = 0;
       small = 0;
       most = 0;
+      again = false;
       rule = 14;
     }
 
@@ -110,6 +104,7 @@ turned s d j rule =
       big = s .big + unmarkedUpper d / 2048;
       small = s .small + unmarkedUpper d % 2048;
       most = cond (isMarked d) (s .most) (d .day);
+      again = s .again || (not (isUntimed d) && leb (rankOf d) (s .top));
       rule = rule;
     }
 

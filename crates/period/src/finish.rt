@@ -1,11 +1,13 @@
 // Rules 7 to 14, from what the pass over the period's doses has kept.
 use crate::turn::Walk;
+use crate::twice::has_twice;
 use plan::dose_in;
 ghost use mathlib.Core.Path.{_≡_};
-ghost use Prim.Native.Nat.{_≤_};
+ghost use Prim.Native.Nat.{_≤_, _<_};
 ghost use Rattle.plan.specs.Periods.{dosesOf, doseIn, blockAt};
 ghost use Rattle.period.specs.Period.{limitOf, ruleOf};
 ghost use Rattle.period.specs.Turn.{Room, Passed};
+ghost use Rattle.period.specs.Twice.{hasTwice};
 ghost use Rattle.period.specs.Finish.{isPast, isAnyDay, isBoth, roundBy, isTooMuch, NotYet};
 
 // Rule 7: day numbers do not fall, so that the last is the largest.
@@ -21,6 +23,17 @@ fn is_any_day(plan: &[u8], b: u8, s: Walk, n: u16) -> bool
 {
     let first = dose_in(plan, b, 0);
     (0 < n) & (first.day == 0) & ((s.marked < n) | !(s.day == 0))
+}
+
+// Rule 10: it is kept where every dose with a time has a higher rank than those ahead of it.
+fn is_any_twice(plan: &[u8], b: u8, s: Walk, n: u16) -> bool
+    requires { ⌜ (n ≤ 1515) × (7 < s .rule) × Passed (now plan) b n s ⌝ }
+    ensures { λ r. ⌜ r ≡ hasTwice (doseIn (now (plan .entry)) b) n ⌝ }
+{
+    if s.again {
+        return has_twice(plan, b, n);
+    }
+    false
 }
 
 // Rule 12.
@@ -65,6 +78,12 @@ pub(crate) fn rule_from_7(plan: &[u8], b: u8, s: Walk, n: u16, limit: u32) -> u8
     }
     if is_any_day(plan, b, s, n) {
         return 8;
+    }
+    if s.rule < 10 {
+        return s.rule;
+    }
+    if is_any_twice(plan, b, s, n) {
+        return 10;
     }
     if s.rule < 12 {
         return s.rule;

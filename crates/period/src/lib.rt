@@ -3,6 +3,7 @@
 mod finish;
 mod header;
 mod turn;
+mod twice;
 mod walk;
 
 use finish::rule_from_7;

@@ -24,7 +24,9 @@ pub(crate) struct Walk {
     pub small: u64,
     // the last day number of an unmarked dose
     pub most: u16,
-    // the lowest of rules 7 (a falling day number), 9, 10, 11 and 13 that a dose has broken, or 14
+    // a dose with a time had no higher rank than one ahead of it, so that rule 10 is still to be asked
+    pub again: bool,
+    // the lowest of rules 7 (a falling day number), 9, 11 and 13 that a dose has broken, or 14
     pub rule: u8,
 }
 
@@ -61,6 +63,7 @@ pub(crate) fn begin() -> Walk
         big: 0,
         small: 0,
         most: 0,
+        again: false,
         rule: 14,
     }
 }
@@ -133,6 +136,7 @@ pub(crate) fn turn(s: Walk, d: Dose, j: u16, rule: u8) -> Walk
         big: s.big + upper / 2048,
         small: s.small + upper % 2048,
         most: pick16(marked, s.most, d.day),
+        again: s.again | (!(d.kind == 0) & (rank <= s.top)),
         rule,
     }
 }

@@ -5,7 +5,6 @@ use crate::turn::from_of;
 use crate::turn::is_asked;
 use crate::turn::is_bad_range;
 use crate::turn::is_crowded;
-use crate::turn::is_timed;
 use crate::turn::turn;
 use plan::Dose;
 use plan::block_of;
@@ -17,28 +16,7 @@ ghost use mathlib.Core.Path.{_≡_};
 ghost use Prim.Native.Nat.{_+_, _*_, _≤_, _<_, min};
 ghost use Rattle.plan.specs.Fields.{doseOf, recordAt};
 ghost use Rattle.plan.specs.Periods.{doseIn};
-ghost use Rattle.period.specs.Doses.{twice};
-ghost use Rattle.period.specs.Turn.{sameAmounts, isLike, twiceBack, otherBack, twiceAt, otherAt, lowest, ruleWith, nextRule, Passed};
-
-// Rule 10 on two doses: need marks are disregarded.
-fn is_twice(d: Dose, e: Dose) -> bool
-    ensures { λ r. ⌜ r ≡ twice d e ⌝ }
-{
-    (d.day == e.day) & (d.kind == e.kind) & (is_timed(d) | ((d.kind == 5) & (d.minute == e.minute)))
-}
-
-// Rule 10 on d and the doses from `from` up to dose j. Seldom asked.
-fn is_twice_back(plan: &[u8], b: u8, from: u16, j: u16, d: Dose) -> bool
-    requires { ⌜ from ≤ j ⌝ }
-    ensures { λ r. ⌜ r ≡ twiceBack (doseIn (now (plan .entry)) b) from j d ⌝ }
-{
-    for i in from..j {
-        if is_twice(dose_in(plan, b, i), d) {
-            return true;
-        }
-    }
-    false
-}
+ghost use Rattle.period.specs.Turn.{sameAmounts, isLike, otherBack, otherAt, lowest, ruleWith, nextRule, Passed};
 
 fn same_amounts(d: Dose, e: Dose) -> bool
     ensures { λ r. ⌜ r ≡ sameAmounts d e ⌝ }
@@ -67,18 +45,7 @@ fn is_other_back(plan: &[u8], b: u8, from: u16, j: u16, d: Dose) -> bool
     false
 }
 
-// Rule 10 on dose j, where no lower rule and not this one is broken yet.
-fn is_twice_at(plan: &[u8], b: u8, s: Walk, d: Dose, j: u16) -> bool
-    requires { ⌜ s .from ≤ j ⌝ }
-    ensures { λ r. ⌜ r ≡ twiceAt (doseIn (now (plan .entry)) b) s d j ⌝ }
-{
-    if (10 < s.rule) & !(d.kind == 0) {
-        return is_twice_back(plan, b, from_of(s, d, j), j, d);
-    }
-    false
-}
-
-// Rule 11 likewise.
+// Rule 11 on dose j, where no lower rule and not this one is broken yet.
 fn is_other_at(plan: &[u8], b: u8, s: Walk, d: Dose, j: u16) -> bool
     requires { ⌜ s .from ≤ j ⌝ }
     ensures { λ r. ⌜ r ≡ otherAt (doseIn (now (plan .entry)) b) s d j ⌝ }
@@ -90,17 +57,14 @@ fn is_other_at(plan: &[u8], b: u8, s: Walk, d: Dose, j: u16) -> bool
 }
 
 // The lowest broken rule, by the test of each; 14 where none is.
-fn lowest_of(t7: bool, t9: bool, t10: bool, t11: bool, t13: bool) -> u8
-    ensures { λ r. ⌜ r ≡ lowest t7 t9 t10 t11 t13 ⌝ }
+fn lowest_of(t7: bool, t9: bool, t11: bool, t13: bool) -> u8
+    ensures { λ r. ⌜ r ≡ lowest t7 t9 t11 t13 ⌝ }
 {
     if t7 {
         return 7;
     }
     if t9 {
         return 9;
-    }
-    if t10 {
-        return 10;
     }
     if t11 {
         return 11;
@@ -119,7 +83,6 @@ fn rule_with(plan: &[u8], b: u8, s: Walk, d: Dose, j: u16) -> u8
     let rule = lowest_of(
         d.day < s.day,
         is_crowded(s, d, j),
-        is_twice_at(plan, b, s, d, j),
         is_other_at(plan, b, s, d, j),
         is_bad_range(d),
     );

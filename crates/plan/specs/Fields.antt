@@ -32,6 +32,10 @@ endOf r = wordAt r 8
 abbrev pub lastOf : List ℕ → ℕ
 lastOf r = closedDay (endOf r)
 
+-- "2-3 unit number, unexamined"
+abbrev pub unitOf : List ℕ → ℕ
+unitOf r = halfAt r 2
+
 -- "12-15 plan number; 16-19 revision; 20 = 1 for a VKA plan, else 0"
 abbrev pub planNumberOf : List ℕ → ℕ
 planNumberOf r = wordAt r 12

@@ -6,7 +6,7 @@ use block::long_at;
 use block::word_at;
 use day::Day;
 ghost use mathlib.Core.Path.{_≡_};
-ghost use Rattle.plan.specs.Fields.{kindOf, countOf, intervalOf, firstOf, endOf, lastOf, planNumberOf, revisionOf, vkaOf, recordAt, doseOf, isMarked, upperOf};
+ghost use Rattle.plan.specs.Fields.{kindOf, countOf, intervalOf, firstOf, endOf, lastOf, unitOf, planNumberOf, revisionOf, vkaOf, recordAt, doseOf, isMarked, upperOf};
 
 // 1 for a head, 2 for a period, 3 for a continuation.
 pub fn kind_of(r: &[u8]) -> u8
@@ -49,6 +49,12 @@ pub fn last_of(r: &[u8]) -> u32
 {
     let last = Day::new(end_of(r)).closed();
     last.number
+}
+
+pub fn unit_of(r: &[u8]) -> u16
+    ensures { λ n. ⌜ n ≡ unitOf (now (r .entry)) ⌝ }
+{
+    half_at(r, 2)
 }
 
 pub fn plan_number_of(r: &[u8]) -> u32

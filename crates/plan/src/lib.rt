@@ -14,6 +14,7 @@ pub use fields::kind_of;
 pub use fields::last_of;
 pub use fields::plan_number_of;
 pub use fields::revision_of;
+pub use fields::unit_of;
 pub use fields::upper_of;
 pub use fields::vka_of;
 pub use periods::block_of;

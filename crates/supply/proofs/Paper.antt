@@ -9,7 +9,7 @@ use Rattle.day.specs.Days.{openMark}
 use Rattle.block.specs.Bytes.{numberAt, bytesOf}
 use Rattle.plan.specs.Fields.{doseOf}
 use Rattle.plan.specs.Periods.{blockAt, moreOf, dosesOf, doseIn, hasUnmarked, hasMarked, classOf}
-use Rattle.doses.specs.Lists.{pickBelow, joinBelow, sumOver}
+use Rattle.below.specs.Lists.{pickBelow, joinBelow, sumOver}
 use Rattle.doses.specs.Doses.{positionOf, dosesOfPeriod, dosesOn}
 use Rattle.pause.specs.declared.Pause.{Pause}
 use Rattle.pause.specs.Pauses.{isPaused}

@@ -11,9 +11,9 @@ use borrow.Author.Tests.{eq-eqb, ne-eqb, eqb-true, eqb-false}
 use Rattle.below.proofs.Tests.{bool-cases, and-false}
 use Rattle.below.proofs.Total.{sum-zero, sum-more}
 use Rattle.below.specs.Below.{sumBelow}
-use Rattle.doses.proofs.Lists.{sum-pick, sum-join}
+use Rattle.below.proofs.Lists.{sum-pick, sum-join}
 use Rattle.doses.specs.Doses.{covers, positionOf, applies, dosesOfPeriod, dosesOn}
-use Rattle.doses.specs.Lists.{sumOver}
+use Rattle.below.specs.Lists.{sumOver}
 use Rattle.plan.specs.Periods.{blocksOf, blockAt, dosesOf, doseIn}
 use Rattle.plan.specs.declared.Dose.{Dose}
 use Rattle.supply.specs.Capped.{cap, lowestAt}

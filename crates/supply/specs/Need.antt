@@ -7,7 +7,7 @@ use Rattle.below.specs.Below.{anyBelow, firstBelow, sumBelow, largestBelow}
 use Rattle.plan.specs.declared.Dose.{Dose}
 use Rattle.plan.specs.Fields.{lastOf, isMarked, upperOf}
 use Rattle.plan.specs.Periods.{blocksOf, blockAt, isPeriod, fixed, mixed, classOf}
-use Rattle.doses.specs.Lists.{sumOver}
+use Rattle.below.specs.Lists.{sumOver}
 use Rattle.doses.specs.Doses.{dosesOn}
 use Rattle.pause.specs.declared.Pause.{Pause}
 use Rattle.pause.specs.Pauses.{isPaused}

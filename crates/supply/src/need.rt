@@ -10,7 +10,7 @@ use plan::upper_of;
 ghost use mathlib.Core.Path.{_≡_};
 ghost use Prim.Native.Nat.{ℕ, _+_, _≤_, _<_, min};
 ghost use Rattle.plan.specs.Periods.{dosesOf, doseIn, blocksOf};
-ghost use Rattle.doses.specs.Lists.{sumOver};
+ghost use Rattle.below.specs.Lists.{sumOver};
 ghost use Rattle.doses.specs.Doses.{dosesOfPeriod, dosesOn};
 ghost use Rattle.supply.specs.Need.{chosen};
 ghost use Rattle.supply.specs.Capped.{cap, Sorted, From, lowestAt, Orderly};

@@ -7,8 +7,8 @@ use native.Mathlib.Omega.{arith}
 use borrow.Author.Needs.{needs}
 use Rattle.plan.specs.Periods.{blocksOf}
 use Rattle.doses.specs.Doses.{covers, dosesOfPeriod, dosesOn, addedAll, noSums, daySums}
-use Rattle.doses.specs.Lists.{joinBelow}
-use Rattle.doses.proofs.Lists.{join-zero}
+use Rattle.below.specs.Lists.{joinBelow}
+use Rattle.below.proofs.Lists.{join-zero}
 use Rattle.doses.proofs.Sums.{join-hit, join-miss}
 use Rattle.doses.proofs.day_sums.Statement.{statement}
 use Rattle.doses.proofs.day_sums.Tie as tie

@@ -6,8 +6,8 @@ use native.Mathlib.Omega.{arith}
 use borrow.Author.Needs.{needs}
 use Rattle.plan.specs.Periods.{blockAt, dosesOf, doseIn}
 use Rattle.doses.specs.Doses.{positionOf, applies, dosesOfPeriod, addedAll}
-use Rattle.doses.specs.Lists.{pickBelow}
-use Rattle.doses.proofs.Lists.{pick-zero}
+use Rattle.below.specs.Lists.{pickBelow}
+use Rattle.below.proofs.Lists.{pick-zero}
 use Rattle.doses.proofs.Sums.{turn-hit, turn-miss}
 use Rattle.doses.proofs.with_period.Statement.{statement}
 use Rattle.doses.proofs.with_period.Tie as tie

@@ -62,29 +62,31 @@ pick16-requires c κs = search needs
 returns : tie.Need-returns
 unfolding turned
 returns c =
-    let b4 = c .before .before .before .before in
-    let b9 = b4 .before .before .before .before .before in
-    let b14 = b9 .before .before .before .before .before in
-    let r = b14 .before .before .before .before .pre .0 in (
+    let b3 = c .before .before .before in
+    let b7 = b3 .before .before .before .before in
+    let b12 = b7 .before .before .before .before .before in
+    let b16 = b12 .before .before .before .before in
+    let b20 = b16 .before .before .before .before in
+    let r = b20 .before .pre .0 in (
       rw (
-        c .pick16 .ensures,
-        b4 .one-if3 .ensures .0,
-        b4 .before .before .one-if2 .ensures .0,
-        b4 .before .before .before .is-timed .ensures,
-        b9 .one-if .ensures .0,
-        b9 .before .before .pick642 .ensures,
-        b9 .before .before .before .before .from-of .ensures .0,
-        b14 .pick64 .ensures,
-        b14 .before .upper-of .ensures,
-        b14 .before .before .rank-of .ensures,
-        b14 .before .before .before .is-marked .ensures,
+        b3 .pick16 .ensures,
+        b7 .one-if3 .ensures .0,
+        b7 .before .before .one-if2 .ensures .0,
+        b7 .before .before .before .is-timed .ensures,
+        b12 .one-if .ensures .0,
+        b12 .before .before .pick642 .ensures,
+        b16 .from-of .ensures .0,
+        b16 .before .pick64 .ensures,
+        b16 .before .before .upper-of .ensures,
+        b16 .before .before .before .rank-of .ensures,
+        b20 .is-marked .ensures,
       ),
       record {
-        from = omega (arith, b9 .before .before .before .before .from-of .ensures .1);
-        untimed = omega (arith, b9 .one-if .ensures .1, r .untimed);
-        timed = omega (arith, b4 .before .before .one-if2 .ensures .1, r .timed);
-        marked = omega (arith, b4 .one-if3 .ensures .1, r .marked);
-        big = omega (arith, b14 .pick64 .ok, r .big);
+        from = omega (arith, b16 .from-of .ensures .1);
+        untimed = omega (arith, b12 .one-if .ensures .1, r .untimed);
+        timed = omega (arith, b7 .before .before .one-if2 .ensures .1, r .timed);
+        marked = omega (arith, b7 .one-if3 .ensures .1, r .marked);
+        big = omega (arith, b16 .before .pick64 .ok, r .big);
         small = omega (arith, r .small);
       },
     )

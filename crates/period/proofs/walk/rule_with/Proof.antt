@@ -7,9 +7,6 @@ use Rattle.period.proofs.walk.rule_with.Tie as tie
 is-crowded-requires : tie.Need-is-crowded-requires
 is-crowded-requires c κs = search needs
 
-is-twice-at-requires : tie.Need-is-twice-at-requires
-is-twice-at-requires c κs = search needs
-
 is-other-at-requires : tie.Need-is-other-at-requires
 is-other-at-requires c κs = search needs
 
@@ -25,8 +22,7 @@ returns c =
     rw (
       ← c .before .before .before .is-bad-range .ensures,
       ← c .before .before .before .before .is-other-at .ensures,
-      ← c .before .before .before .before .before .is-twice-at .ensures,
-      ← c .before .before .before .before .before .before .is-crowded .ensures,
+      ← c .before .before .before .before .before .is-crowded .ensures,
       ← c .before .before .lowest-of .ensures,
       lt-ltb _ _ (c .if1 .taken),
     )
@@ -37,8 +33,7 @@ returns-2 c =
     rw (
       ← c .before .before .before .is-bad-range .ensures,
       ← c .before .before .before .before .is-other-at .ensures,
-      ← c .before .before .before .before .before .is-twice-at .ensures,
-      ← c .before .before .before .before .before .before .is-crowded .ensures,
+      ← c .before .before .before .before .before .is-crowded .ensures,
       ← c .before .before .lowest-of .ensures,
       le-ltb _ _ (c .if1 .left),
     )
@@ -48,7 +43,6 @@ rule-with-spec =
     tie.close
     (tie.spec
     is-crowded-requires
-    is-twice-at-requires
     is-other-at-requires
     is-bad-range-requires
     lowest-of-requires

@@ -1,6 +1,6 @@
 use borrow.Author.Needs.{needs}
-use Rattle.period.proofs.walk.is_twice.Statement.{statement}
-use Rattle.period.proofs.walk.is_twice.Tie as tie
+use Rattle.period.proofs.twice.is_twice.Statement.{statement}
+use Rattle.period.proofs.twice.is_twice.Tie as tie
 
 is-timed-requires : tie.Need-is-timed-requires
 is-timed-requires c κs = search needs
