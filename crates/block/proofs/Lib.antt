@@ -2,5 +2,6 @@
 pub mod Numbers
 pub mod Put
 pub mod Sealing
+pub mod Joining
 pub mod Zero
 pub mod Paper

@@ -1,5 +1,5 @@
 -- The two sums of a block.
-use Prim.Native.Nat.{ℕ, zero, suc, _+_, _%_, _^_}
+use Prim.Native.Nat.{ℕ, zero, suc, _+_, _*_, _%_, _^_}
 use mathlib.Core.Bool.{Bool, cond, _&&_}
 use mathlib.Core.List.{List}
 use lib.Dec.{eqb}
@@ -21,6 +21,11 @@ grown s w =
 unfoldable pub summed : Sums → List ℕ → ℕ → ℕ → Sums
 summed s b i zero = s
 summed s b i (suc n) = summed (grown s (wordAt b i)) b (i + 4) n
+
+-- the sums that were s, after n words whose own sums, from 0 on, are t: what the code goes by; proofs/Joining.antt
+unfoldable pub joined : ℕ → Sums → Sums → Sums
+joined n s t =
+    record { first = (s .first + t .first) % 2 ^ 32; second = (s .second + n * s .first + t .second) % 2 ^ 32 }
 
 -- "Words 0 to 125 (32 bits each) are summed: both sums start at 0"
 unfoldable pub sumsOf : List ℕ → Sums

@@ -6,7 +6,7 @@ use crate::write::put_word;
 ghost use mathlib.Core.Path.{_≡_};
 ghost use Prim.Native.Nat.{_+_, _≤_};
 ghost use lib.ListN.{length};
-ghost use Rattle.block.specs.Sums.{grown, summed, sumsOf, sumsRight, sealed};
+ghost use Rattle.block.specs.Sums.{grown, summed, joined, sumsOf, sumsRight, sealed};
 
 // The sums with a word more.
 fn grow(s: Sums, w: u32) -> Sums
@@ -17,12 +17,18 @@ fn grow(s: Sums, w: u32) -> Sums
     Sums { first, second }
 }
 
-// The sums with the six words from `at` on: a turn of six runs near twice as fast as a turn of one.
-fn grow_six(s: Sums, b: &[u8], at: usize) -> Sums
+// The sums of the six words from `at` on, by themselves: one turn's words need not wait for those of the turns before.
+fn sums_of_six(b: &[u8], at: usize) -> Sums
     requires { ⌜ at + 24 ≤ length (now b) ⌝ }
-    ensures { λ r. ⌜ r ≡ summed s (now (b .entry)) at 6 ⌝ }
+    ensures { λ r. ⌜ r ≡ summed (record { first = 0; second = 0 }) (now (b .entry)) at 6 ⌝ }
 {
-    let s = grow(s, word_in(b, at));
+    let s = grow(
+        Sums {
+            first: 0,
+            second: 0,
+        },
+        word_in(b, at),
+    );
     let at = at + 4;
     let s = grow(s, word_in(b, at));
     let at = at + 4;
@@ -33,6 +39,28 @@ fn grow_six(s: Sums, b: &[u8], at: usize) -> Sums
     let s = grow(s, word_in(b, at));
     let at = at + 4;
     grow(s, word_in(b, at))
+}
+
+// The sums s, after six words whose own sums are t: each of those counts the first of s once more.
+fn join_six(s: Sums, t: Sums) -> Sums
+    ensures { λ r. ⌜ r ≡ joined 6 s t ⌝ }
+{
+    let twice = std::num::wrapping_add_u32(s.first, s.first);
+    let thrice = std::num::wrapping_add_u32(twice, s.first);
+    let six_times = std::num::wrapping_add_u32(thrice, thrice);
+    let second = std::num::wrapping_add_u32(s.second, six_times);
+    Sums {
+        first: std::num::wrapping_add_u32(s.first, t.first),
+        second: std::num::wrapping_add_u32(second, t.second),
+    }
+}
+
+// The sums with the six words from `at` on.
+fn grow_six(s: Sums, b: &[u8], at: usize) -> Sums
+    requires { ⌜ at + 24 ≤ length (now b) ⌝ }
+    ensures { λ r. ⌜ r ≡ summed s (now (b .entry)) at 6 ⌝ }
+{
+    join_six(s, sums_of_six(b, at))
 }
 
 // The sums of words 0 to 125: 21 times six.
