@@ -1,13 +1,14 @@
 -- Laws of lists that are made of 0, 1, .., n - 1, and of the elements of a list: one more, one list behind another, and sums
 -- over them. Assumes nothing.
-use Prim.Native.Nat.{ℕ, zero, suc, _+_, _<_}
+use Prim.Native.Nat.{ℕ, zero, suc, _+_, _≤_, _<_}
 use mathlib.Core.Bool.{Bool, true, false, cond}
 use mathlib.Core.List.{List, [], _∷_, _++_, append-assoc, append-nil}
 use mathlib.Core.Path.{_≡_, refl, sym, ap, _∙_}
+use native.Mathlib.Nat.{add-zero, add-suc}
 use native.Mathlib.Numerals.{add-one}
 use native.Mathlib.Omega.{arith}
-use lib.ListN.{length, getD, length-append, List·getD-append}
-use lib.Seq.{getD-append-add}
+use lib.ListN.{length, getD, take, drop, length-append, length-drop, List·getD-append}
+use lib.Seq.{getD-append-add, getD-take, getD-drop, length-take-le, ext-getD}
 use borrow.Author.Count.{below-more}
 use Rattle.below.specs.Below.{sumBelow}
 use Rattle.below.specs.Lists.{listBelow, pickBelow, joinBelow, keep, joinOver, sumOver}
@@ -88,6 +89,35 @@ module _ {A : Type 0} where
   join-same zero f g h = refl
   join-same (suc n) f g h = rw (join-same n f g (λ i l. h i (omega arith)), h n (omega arith))
 
+  -- the first m of them, and the n behind
+  pub join-split : (m n : ℕ) (f : ℕ → List A) → joinBelow (m + n) f ≡ joinBelow m f ++ joinBelow n (λ i. f (m + i))
+  unfolding joinBelow
+  join-split m zero f = rw add-zero (sym (append-nil (joinBelow m f)))
+  join-split m (suc n) f = rw (add-suc, join-split m n f) (append-assoc (joinBelow m f) (joinBelow n (λ i. f (m + i))) (f (m + n)))
+
+  -- nothing but empty lists
+  pub join-none : (n : ℕ) (f : ℕ → List A) → ((i : ℕ) → i < n → f i ≡ []) → joinBelow n f ≡ []
+  unfolding joinBelow
+  join-none zero f h = refl
+  join-none (suc n) f h = rw (join-none n f (λ i l. h i (omega arith)), h n (omega arith))
+
+  -- a list is made of its own elements
+  pub list-of : (xs : List A) (x : A) → listBelow (length xs) (λ i. getD xs i x) ≡ xs
+  list-of xs x =
+      let n = length-list (length xs) (λ i. getD xs i x) in
+      ext-getD x (listBelow (length xs) (λ i. getD xs i x)) xs n
+      (λ i l. getD-list (length xs) (λ i. getD xs i x) x i (rw n at l))
+
+  -- a part of such a list is such a list
+  pub part-list : (m a n : ℕ) (f : ℕ → A) → a + n ≤ m → take n (drop a (listBelow m f)) ≡ listBelow n (λ i. f (a + i))
+  part-list m a n f h =
+      let l = listBelow m f in
+      let long : length (take n (drop a l)) ≡ n = length-take-le n (drop a l) (rw (length-drop, length-list m f) (omega arith)) in
+      ext-getD (f 0) (take n (drop a l)) (listBelow n (λ i. f (a + i))) (long ∙ sym (length-list n (λ i. f (a + i))))
+      (λ i q.
+      let k : i < n = rw long at q in
+      getD-take n (drop a l) i (f 0) k ∙ getD-drop a l i (f 0) ∙ getD-list m f (f 0) (a + i) (omega arith) ∙ sym (getD-list n (λ i. f (a + i)) (f 0) i k))
+
   -- what has a test, of two lists
   pub keep-append : (p : A → Bool) (xs ys : List A) → keep p (xs ++ ys) ≡ keep p xs ++ keep p ys
   unfolding keep
@@ -110,9 +140,18 @@ module _ {A B : Type 0} (f : A → List B) where
   over-append [] ys = refl
   over-append (x ∷ xs) ys = rw (over-append xs ys) (sym (append-assoc (f x) (joinOver f xs) (joinOver f ys)))
 
+  pub over-nil : joinOver f [] ≡ []
+  unfolding joinOver
+  over-nil = refl
+
   pub over-one : (x : A) → joinOver f (x ∷ []) ≡ f x
   unfolding joinOver
   over-one x = append-nil (f x)
+
+  pub over-list : (n : ℕ) (g : ℕ → A) → joinOver f (listBelow n g) ≡ joinBelow n (λ i. f (g i))
+  unfolding listBelow joinBelow
+  over-list zero g = over-nil
+  over-list (suc n) g = over-append (listBelow n g) (g n ∷ []) ∙ rw (over-list n g, over-one (g n))
 
   pub over-join : (n : ℕ) (g : ℕ → List A) → joinOver f (joinBelow n g) ≡ joinBelow n (λ i. joinOver f (g i))
   unfolding joinBelow joinOver

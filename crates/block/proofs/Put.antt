@@ -71,6 +71,18 @@ module _ (s : List ℕ) (i : ℕ) (bs : List ℕ) where
   pub stores-put : i + length bs ≤ length s → sets s i bs ≡ put s i bs
   stores-put h = sets-eq bs s i h ∙ sym (put-in h)
 
+-- lists that agree ahead of what is put into both agree up to its end
+pub put-same : (s t : List ℕ) (i : ℕ) (bs : List ℕ) → i + length bs ≤ length s → length s ≡ length t → ((j : ℕ) → j < i → byteAt s j ≡ byteAt t j) →
+    (j : ℕ) → j < i + length bs → byteAt (put s i bs) j ≡ byteAt (put t i bs) j
+put-same s t i bs h n e j l =
+    ⊎-elim
+    (λ (a : i ≤ j).
+    let k = j - i in
+    let z : j ≡ i + k = omega arith in
+    rw z (put-here s i bs h k (omega arith) ∙ sym (put-here t i bs (omega arith) k (omega arith))))
+    (λ (a : j < i). put-ahead s i bs j a ∙ e j a ∙ sym (put-ahead t i bs j a))
+    (le-or-lt i j)
+
 -- a number that was put is read again
 pub number-put : (w : ℕ) (s : List ℕ) (i x : ℕ) → i + w ≤ length s → x < 256 ^ w → numberAt w (put s i (bytesOf w x)) i ≡ x
 number-put w s i x h f =

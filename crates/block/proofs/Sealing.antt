@@ -3,17 +3,18 @@ use Prim.Native.Nat.{ℕ, zero, suc, _+_, _*_, _^_, _<_}
 use mathlib.Core.Bool.{true}
 use mathlib.Core.List.{List}
 use mathlib.Core.Logic.{inl}
-use mathlib.Core.Path.{_≡_, refl, _∙_}
+use mathlib.Core.Path.{_≡_, refl, sym, _∙_}
 use native.Mathlib.Nat.{zero-add, suc-add}
 use native.Mathlib.Omega.{arith}
 use lib.ListN.{length}
+use lib.Seq.{ext-getD}
 use borrow.Author.Tests.{eq-eqb, eqb-true}
 use Rattle.below.proofs.Tests.{and-both}
 use Rattle.block.specs.Bytes.{byteAt, wordAt, bytesOf, put}
 use Rattle.block.specs.Sums.{grown, summed, sumsOf, sumsRight, sealed}
 use Rattle.block.specs.declared.Sums.{Sums}
-use Rattle.block.proofs.Numbers.{AreBytes, number-same, bytes-number}
-use Rattle.block.proofs.Put.{length-put, put-ahead, number-put, number-put-apart, put-own}
+use Rattle.block.proofs.Numbers.{AreBytes, number-same, length-bytes, bytes-number}
+use Rattle.block.proofs.Put.{length-put, put-ahead, put-same, number-put, number-put-apart, put-own}
 
 -- m words and then n more
 pub summed-more : (s : Sums) (b : List ℕ) (i m n : ℕ) → summed s b i (m + n) ≡ summed (summed s b i m) b (i + 4 * m) n
@@ -91,3 +92,26 @@ module _ (b : List ℕ) where
       let two : put b 508 (bytesOf 4 (s .second)) ≡ b =
       rw (← second, bytes-number 4 b 508 bytes (omega arith)) (put-own b 508 4 (omega arith)) in
       rw (sealed-is n, one, two)
+
+-- blocks that agree ahead of their sums are sealed alike
+pub sealed-same : (b c : List ℕ) → length b ≡ 512 → length c ≡ 512 → ((j : ℕ) → j < 504 → byteAt b j ≡ byteAt c j) → sealed b ≡ sealed c
+sealed-same b c m n h =
+    let s = sumsOf c in
+    let first = bytesOf 4 (s .first) in
+    let second = bytesOf 4 (s .second) in
+    let x : length first ≡ 4 = length-bytes 4 (s .first) in
+    let y : length second ≡ 4 = length-bytes 4 (s .second) in
+    let k : length (put b 504 first) ≡ 512 = length-put _ _ _ ∙ m in
+    let l : length (put c 504 first) ≡ 512 = length-put _ _ _ ∙ n in
+    let one : (j : ℕ) → j < 508 → byteAt (put b 504 first) j ≡ byteAt (put c 504 first) j =
+    λ j q. put-same b c 504 first (omega arith) (m ∙ sym n) h j (omega arith) in
+    let two : (j : ℕ) → j < 512 → byteAt (put (put b 504 first) 508 second) j ≡ byteAt (put (put c 504 first) 508 second) j =
+    λ j q. put-same (put b 504 first) (put c 504 first) 508 second (omega arith) (k ∙ sym l) one j (omega arith) in
+    let long : length (put (put b 504 first) 508 second) ≡ 512 = length-put _ _ _ ∙ k in
+    rw (sealed-is b m, sealed-is c n, sums-same b c h)
+    (ext-getD 0 (put (put b 504 first) 508 second) (put (put c 504 first) 508 second) (long ∙ sym (length-put _ _ _ ∙ l))
+    (λ j q. two j (omega arith)))
+
+-- so a block of bytes whose sums are right is what any block that agrees with it ahead of its sums is sealed to
+pub sealed-again : (b r : List ℕ) → length b ≡ 512 → length r ≡ 512 → AreBytes r → sumsRight r ≡ true → ((j : ℕ) → j < 504 → byteAt b j ≡ byteAt r j) → sealed b ≡ r
+sealed-again b r m n bytes e h = sealed-same b r m n h ∙ right-sealed r bytes e

@@ -3,12 +3,12 @@ use Prim.Native.Nat.{ℕ, _≤_, _<_}
 use mathlib.Core.Bool.{true, false, not, _||_}
 use mathlib.Core.List.{List}
 use mathlib.Core.Logic.{⊎-elim}
-use mathlib.Core.Path.{_≡_}
+use mathlib.Core.Path.{_≡_, sym}
 use native.Mathlib.Omega.{arith}
 use lib.Dec.{eqb, ltb}
 use borrow.Author.Tests.{leb-true, ltb-false, eqb-true, not-false}
-use Rattle.below.proofs.Search.{any-not}
-use Rattle.below.proofs.Tests.{bool-cases, true-not-false, or-either, or-neither}
+use Rattle.below.proofs.Search.{any-none, any-not}
+use Rattle.below.proofs.Tests.{bool-cases, true-not-false, and-false, or-either, or-neither}
 use Rattle.block.specs.Sums.{sumsRight}
 use Rattle.day.specs.Days.{openMark, isDay}
 use Rattle.plan.specs.Fields.{kindOf, firstOf, endOf, lastOf}
@@ -17,6 +17,7 @@ use Rattle.refusal.proofs.Order.{Passed, passed-lowest}
 use Rattle.refusal.specs.declared.Refusal.{Refusal}
 use Rattle.form.specs.Form.{badLength, misplaced, daysOut, dosesOut, periodOut, blockOut, formBreaks, formRule, formOf}
 use Rattle.form.specs.declared.Form.the-variants.{Right, Broken}
+use Rattle.form.proofs.Laws.{right-is}
 
 pub record Formed (limit : ℕ) (p : List ℕ) : Type 0 where
   pub long : badLength limit p ≡ false
@@ -87,3 +88,23 @@ module _ {limit : ℕ} {p : List ℕ} (f : Formed limit p) where
       let k : kindOf (blockAt p b) ≡ 2 = eqb-true _ _ e in
       let o : periodOut (blockAt p b) ≡ false = rw k at (ranged b l) in
       days-in (blockAt p b) (or-neither (daysOut (blockAt p b)) _ (or-neither _ (dosesOut (blockAt p b)) o .0) .0)
+
+-- and the other way: bytes of which no block breaks rule 2, 3 or 4 are right
+module _ (limit : ℕ) (p : List ℕ) (long : badLength limit p ≡ false)
+    (sums : (b : ℕ) → b < blocksOf p → sumsRight (blockAt p b) ≡ true)
+    (places : (b : ℕ) → b < blocksOf p → misplaced p b ≡ false)
+    (ranges : (b : ℕ) → b < blocksOf p → blockOut (blockAt p b) ≡ false) where
+  unbroken : (k b : ℕ) → k < 5 → b < blocksOf p → formBreaks p k b ≡ false
+  unfolding formBreaks
+  unbroken k b h l =
+      ⊎-elim
+      (λ (t : eqb k 2 ≡ true). rw (t, sums b l))
+      (λ (t : eqb k 2 ≡ false).
+      ⊎-elim
+      (λ (u : eqb k 3 ≡ true). rw (t, u, places b l))
+      (λ (u : eqb k 3 ≡ false). rw (t, u, ranges b l, and-false))
+      (bool-cases (eqb k 3)))
+      (bool-cases (eqb k 2))
+
+  pub right : formOf limit p ≡ Right
+  right = sym (right-is limit p long (λ k h. any-none (formBreaks p k) (λ b l. unbroken k b h l)))

@@ -37,7 +37,7 @@ module _ {limit : ℕ} {p : List ℕ} (small : limit < 65536) (f : Formed limit 
 
   module _ (b : ℕ) (l : b < blocksOf p) (e : isPeriod p b ≡ true) where
     -- the blocks behind the first that belong to the period
-    goes : (i : ℕ) → i < moreOf p b → isContinuation p (b + 1 + i) ≡ true
+    pub goes : (i : ℕ) → i < moreOf p b → isContinuation p (b + 1 + i) ≡ true
     unfolding moreOf
     goes i h = not-false _ (first-facts (λ i. not (isContinuation p (b + 1 + i))) 63 .before i h)
 
@@ -46,14 +46,14 @@ module _ {limit : ℕ} {p : List ℕ} (small : limit < 65536) (f : Formed limit 
     kinds zero h = let z : b + 0 ≡ b = omega arith in inl (rw z e)
     kinds (suc q) h = let z : b + suc q ≡ b + 1 + q = omega arith in inr (rw z (goes q (omega arith)))
 
-    inside : (q : ℕ) → q ≤ moreOf p b → b + q < blocksOf p
+    pub inside : (q : ℕ) → q ≤ moreOf p b → b + q < blocksOf p
     inside q h =
         ⊎-elim
         (λ t. there (b + q) {k = 1} (eqb-true _ _ t))
         (λ t. there (b + q) {k = 2} (eqb-true _ _ t))
         (kinds q h)
 
-    doses-in : (q : ℕ) → q ≤ moreOf p b → dosesOut (blockAt p (b + q)) ≡ false
+    pub doses-in : (q : ℕ) → q ≤ moreOf p b → dosesOut (blockAt p (b + q)) ≡ false
     unfolding blockOut periodOut continuationOut
     doses-in q h =
         let r = blockAt p (b + q) in
@@ -70,7 +70,7 @@ module _ {limit : ℕ} {p : List ℕ} (small : limit < 65536) (f : Formed limit 
         (kinds q h)
 
     -- a block with another behind it is full
-    full : (q : ℕ) → q < moreOf p b → countOf (blockAt p (b + q)) ≡ 20
+    pub full : (q : ℕ) → q < moreOf p b → countOf (blockAt p (b + q)) ≡ 20
     unfolding misplaced
     full q h =
         let c = b + 1 + q in
@@ -88,7 +88,7 @@ module _ {limit : ℕ} {p : List ℕ} (small : limit < 65536) (f : Formed limit 
         rw d at (eqb-true (countOf (blockAt p (c - 1))) 20 y))
         (or-either (isPeriod p c) (isContinuation p c && goesOn p (c - 1)) (not-false _ x))
 
-    count-in : (q : ℕ) → q ≤ moreOf p b → countOf (blockAt p (b + q)) ≤ 20
+    pub count-in : (q : ℕ) → q ≤ moreOf p b → countOf (blockAt p (b + q)) ≤ 20
     unfolding dosesOut
     count-in q h =
         let r = blockAt p (b + q) in
