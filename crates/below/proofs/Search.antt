@@ -29,7 +29,7 @@ module _ (p : ℕ → Bool) where
   pub none-more : {i : ℕ} → NoneBelow i → p i ≡ false → NoneBelow (i + 1)
   none-more {i} all here = below-more (λ (k : ℕ). p k ≡ false) i all here
 
-  from-hit : (n i m : ℕ) → i ≤ m → m < i + n → ((k : ℕ) → i ≤ k → k < m → p k ≡ false) → p m ≡ true → firstFrom n i p ≡ m
+  pub from-hit : (n i m : ℕ) → i ≤ m → m < i + n → ((k : ℕ) → i ≤ k → k < m → p k ≡ false) → p m ≡ true → firstFrom n i p ≡ m
   unfolding firstFrom
   from-hit zero i m l h none hit = absurd (let z : m < i = omega arith in omega arith)
   from-hit (suc n) i m l h none hit =
@@ -38,7 +38,7 @@ module _ (p : ℕ → Bool) where
       (λ lt. rw (none i (le-refl i) lt) (from-hit n (suc i) m lt (omega arith) (λ k a b. none k (omega arith) b) hit))
       (eq-or-lt-of-le l)
 
-  from-none : (n i : ℕ) → ((k : ℕ) → i ≤ k → k < i + n → p k ≡ false) → firstFrom n i p ≡ i + n
+  pub from-none : (n i : ℕ) → ((k : ℕ) → i ≤ k → k < i + n → p k ≡ false) → firstFrom n i p ≡ i + n
   unfolding firstFrom
   from-none zero i none = omega arith
   from-none (suc n) i none =

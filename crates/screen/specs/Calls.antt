@@ -10,28 +10,44 @@ use Rattle.verdict.specs.declared.Answer.{Answer}
 use Rattle.verdict.specs.declared.Answer.the-variants.{Accepted, Broken}
 use Rattle.verdict.specs.Verdict.{codeOfAnswer}
 use Rattle.supply.specs.declared.Supply.{Supply}
-use Rattle.supply.specs.declared.Supply.the-variants.{Lasts, Refused}
+use Rattle.supply.specs.declared.Supply.the-variants as supply
+use Rattle.split.specs.declared.Parted.{Parted}
+use Rattle.split.specs.declared.Parted.the-variants as split
+use Rattle.showing.specs.declared.Stretch.{Stretch}
 
 -- a buffer with numbers of 64 bits from byte i on
 unfoldable pub written : List ℕ → ℕ → List ℕ → List ℕ
 written out i [] = out
 written out i (x ∷ xs) = written (put out i (bytesOf 8 x)) (i + 8) xs
 
--- "a buffer under 32 bytes is 26, ahead of all else"
-abbrev pub tooShort : List ℕ → Bool
-tooShort out = ltb (length out) 32
+-- "a buffer under 32 bytes is 26, ahead of all else": likewise in every call with a buffer for n bytes of numbers
+abbrev pub tooShort : ℕ → List ℕ → Bool
+tooShort n out = ltb (length out) n
 
 abbrev pub code26 : ℕ
 code26 = codeOf (alone 26)
 
 -- "Unless refused, days, last day, rest and reason go into a lent buffer as four 64-bit numbers, bytes behind untouched"
 abbrev pub supplyCode : Supply → ℕ
-supplyCode (Lasts x) = doneCode
-supplyCode (Refused r) = codeOf r
+supplyCode (supply.Lasts x) = doneCode
+supplyCode (supply.Refused r) = codeOf r
 
 abbrev pub supplyOut : List ℕ → Supply → List ℕ
-supplyOut out (Lasts x) = written out 0 (x .days ∷ x .last ∷ x .rest ∷ x .reason ∷ [])
-supplyOut out (Refused r) = out
+supplyOut out (supply.Lasts x) = written out 0 (x .days ∷ x .last ∷ x .rest ∷ x .reason ∷ [])
+supplyOut out (supply.Refused r) = out
+
+-- split: "The answer is both parts' lengths in bytes"
+abbrev pub splitCode : Parted → ℕ
+splitCode (split.Parts n) = doneCode
+splitCode (split.Refused r) = codeOf r
+
+abbrev pub splitOut : List ℕ → Parted → List ℕ
+splitOut out (split.Parts n) = written out 0 (n .fixed ∷ n .need ∷ [])
+splitOut out (split.Refused r) = out
+
+-- showing a day: where the stretch begins in the wanted part, and how many bytes it has
+abbrev pub stretchOut : List ℕ → Stretch → List ℕ
+stretchOut out s = written out 0 (s .at ∷ s .length ∷ [])
 
 -- a day's four sums likewise: unmarked low, unmarked upper, marked low, marked upper
 abbrev pub sumsOut : List ℕ → Answer → List (List ℕ) → List ℕ

@@ -3,18 +3,25 @@ use block::put_long;
 use doses::day_sums;
 use refusal::Refusal;
 use refusal::done;
+use showing::stretch_of;
+use split::Parted;
+use split::split;
 use supply::Supply;
 use supply::supply_packed;
 use verdict::Answer;
 use verdict::refusal_of;
 use verdict::verdict;
 ghost use mathlib.Core.Path.{_≡_};
-ghost use mathlib.Core.Bool.{cond};
+ghost use mathlib.Core.Bool.{true, false, cond};
 ghost use mathlib.Core.List.{[], _∷_};
 ghost use Rattle.verdict.specs.Verdict.{verdictOf, codeOfAnswer};
 ghost use Rattle.doses.specs.Doses.{daySums};
 ghost use Rattle.supply.specs.Supply.{packedSupplyOf};
-ghost use Rattle.screen.specs.Calls.{written, tooShort, code26, supplyCode, supplyOut, sumsOut};
+ghost use Rattle.refusal.specs.Refusals.{doneCode};
+ghost use Rattle.split.specs.Parts.{partBytes};
+ghost use Rattle.split.specs.Split.{splitOf, leftBy};
+ghost use Rattle.showing.specs.Showing.{stretchOf};
+ghost use Rattle.screen.specs.Calls.{written, tooShort, code26, supplyCode, supplyOut, splitCode, splitOut, stretchOut, sumsOut};
 
 // The verdict on a plan: the number plus 256 times the place.
 #[no_mangle]
@@ -34,6 +41,14 @@ fn put_four(out: &mut [u8], a: u64, b: u64, c: u64, d: u64)
     put_long(&mut *out, 24, d);
 }
 
+// Two of them.
+fn put_two(out: &mut [u8], a: u64, b: u64)
+    ensures { λ _. ⌜ now (out .exit) ≡ written (now (out .entry)) 0 (a ∷ b ∷ []) ⌝ }
+{
+    put_long(&mut *out, 0, a);
+    put_long(&mut *out, 8, b);
+}
+
 // How far a pack lasts.
 #[no_mangle]
 pub extern "C" fn chivetassel_supply(
@@ -44,8 +59,8 @@ pub extern "C" fn chivetassel_supply(
     pauses: &[u8],
     out: &mut [u8],
 ) -> u32
-    ensures { λ r. ⌜ r ≡ cond (tooShort (now (out .entry))) code26 (supplyCode (packedSupplyOf (now (plan .entry)) start pack choice (now (pauses .entry)))) ⌝ }
-    ensures { λ _. ⌜ now (out .exit) ≡ cond (tooShort (now (out .entry))) (now (out .entry)) (supplyOut (now (out .entry)) (packedSupplyOf (now (plan .entry)) start pack choice (now (pauses .entry)))) ⌝ }
+    ensures { λ r. ⌜ r ≡ cond (tooShort 32 (now (out .entry))) code26 (supplyCode (packedSupplyOf (now (plan .entry)) start pack choice (now (pauses .entry)))) ⌝ }
+    ensures { λ _. ⌜ now (out .exit) ≡ cond (tooShort 32 (now (out .entry))) (now (out .entry)) (supplyOut (now (out .entry)) (packedSupplyOf (now (plan .entry)) start pack choice (now (pauses .entry)))) ⌝ }
 {
     if out.len() < 32 {
         return Refusal::alone(26).code();
@@ -59,11 +74,56 @@ pub extern "C" fn chivetassel_supply(
     }
 }
 
+// A plan into its two parts.
+#[no_mangle]
+pub extern "C" fn chivetassel_split(
+    plan: &[u8],
+    fixed: &mut [u8],
+    need: &mut [u8],
+    out: &mut [u8],
+) -> u32
+    ensures { λ r. ⌜ r ≡ cond (tooShort 16 (now (out .entry))) code26 (splitCode (splitOf (now (plan .entry)) (now (fixed .entry)) (now (need .entry)))) ⌝ }
+    ensures { λ _. ⌜ now (fixed .exit) ≡ cond (tooShort 16 (now (out .entry))) (now (fixed .entry)) (leftBy (splitOf (now (plan .entry)) (now (fixed .entry)) (now (need .entry))) (partBytes false (now (plan .entry))) (now (fixed .entry))) ⌝ }
+    ensures { λ _. ⌜ now (need .exit) ≡ cond (tooShort 16 (now (out .entry))) (now (need .entry)) (leftBy (splitOf (now (plan .entry)) (now (fixed .entry)) (now (need .entry))) (partBytes true (now (plan .entry))) (now (need .entry))) ⌝ }
+    ensures { λ _. ⌜ now (out .exit) ≡ cond (tooShort 16 (now (out .entry))) (now (out .entry)) (splitOut (now (out .entry)) (splitOf (now (plan .entry)) (now (fixed .entry)) (now (need .entry)))) ⌝ }
+{
+    if out.len() < 16 {
+        return Refusal::alone(26).code();
+    }
+    match split(plan, fixed, need) {
+        Parted::Refused(r) => r.code(),
+        Parted::Parts(n) => {
+            put_two(out, n.fixed as u64, n.need as u64);
+            done()
+        }
+    }
+}
+
+// The blocks of a part's first period that has the day, by their place in the wanted part.
+#[no_mangle]
+pub extern "C" fn chivetassel_show_day(
+    fixed: &[u8],
+    need: &[u8],
+    list: u32,
+    day: u32,
+    out: &mut [u8],
+) -> u32
+    ensures { λ r. ⌜ r ≡ cond (tooShort 16 (now (out .entry))) code26 doneCode ⌝ }
+    ensures { λ _. ⌜ now (out .exit) ≡ cond (tooShort 16 (now (out .entry))) (now (out .entry)) (stretchOut (now (out .entry)) (stretchOf (now (fixed .entry)) (now (need .entry)) list day)) ⌝ }
+{
+    if out.len() < 16 {
+        return Refusal::alone(26).code();
+    }
+    let s = stretch_of(fixed, need, list, day);
+    put_two(out, s.at as u64, s.length as u64);
+    done()
+}
+
 // A day's four sums.
 #[no_mangle]
 pub extern "C" fn chivetassel_day_sums(plan: &[u8], day: u32, out: &mut [u8]) -> u32
-    ensures { λ r. ⌜ r ≡ cond (tooShort (now (out .entry))) code26 (codeOfAnswer (verdictOf (now (plan .entry)))) ⌝ }
-    ensures { λ _. ⌜ now (out .exit) ≡ cond (tooShort (now (out .entry))) (now (out .entry)) (sumsOut (now (out .entry)) (verdictOf (now (plan .entry))) (daySums (now (plan .entry)) day)) ⌝ }
+    ensures { λ r. ⌜ r ≡ cond (tooShort 32 (now (out .entry))) code26 (codeOfAnswer (verdictOf (now (plan .entry)))) ⌝ }
+    ensures { λ _. ⌜ now (out .exit) ≡ cond (tooShort 32 (now (out .entry))) (now (out .entry)) (sumsOut (now (out .entry)) (verdictOf (now (plan .entry))) (daySums (now (plan .entry)) day)) ⌝ }
 {
     if out.len() < 32 {
         return Refusal::alone(26).code();

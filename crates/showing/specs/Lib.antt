@@ -1,0 +1,2 @@
+-- Document 01, "Showing a day".
+pub mod Showing

@@ -1,0 +1,14 @@
+-- What the parts of an accepted plan are like.
+pub mod Kept
+pub mod Next
+pub mod Standing
+pub mod Totals
+pub mod Pieces
+pub mod Room
+pub mod Each
+pub mod Range
+pub mod Order
+pub mod Runs
+pub mod Adding
+pub mod Classes
+pub mod Days

@@ -1,0 +1,40 @@
+-- What the calls that write a part add to it, wherever the writing stands. No rule is stated here.
+use Prim.Native.Nat.{ℕ, _+_, _≤_, _<_}
+use mathlib.Core.Bool.{Bool, true, cond}
+use mathlib.Core.List.{List, [], _∷_, _++_}
+use mathlib.Core.Path.{_≡_}
+use lib.ListN.{length, getD}
+use Rattle.plan.specs.declared.Dose.{Dose}
+use Rattle.plan.specs.Periods.{isPeriod, fixed, need, classOf}
+use Rattle.layout.specs.Layout.{Written, bodyOf}
+use Rattle.layout.specs.declared.Head.{Head}
+use Rattle.writer.specs.declared.Place.{Place}
+use Rattle.writer.specs.Holds.{Holds}
+
+-- entry c of the list is the class of the period at block c, for those ahead of block b
+pub record ClassedTo (p : List ℕ) (b : ℕ) (cs : List ℕ) : Type 0 where
+  pub long : length cs ≡ 32
+  pub entry : (c : ℕ) → c < b → isPeriod p c ≡ true → getD cs c 0 ≡ classOf p c
+
+-- the class that has doses of the part alone
+abbrev pub ownClass : Bool → ℕ
+ownClass marked = cond marked need fixed
+
+-- a buffer that held `old` at first has room for these periods
+abbrev pub HasRoom : List ℕ → List Written → Type 0
+HasRoom old ws = (32768 ≤ length old) × (1 + length (bodyOf ws) ≤ 64)
+
+-- the periods xs come behind those that are there
+abbrev pub Adds : List Written → Place → List ℕ → Place → List ℕ → Type 0
+Adds xs at out at2 out2 =
+    (h : Head) (ws : List Written) (old : List ℕ) → HasRoom old (ws ++ xs) → Holds h ws old at out → Holds h (ws ++ xs) old at2 out2
+
+-- the period w with the doses ds behind its own
+abbrev pub withDoses : Written → List Dose → Written
+withDoses w ds = record { header = w .header; doses = w .doses ++ ds }
+
+-- the doses ds come into the last period, behind those that are there
+abbrev pub AddsDoses : List Dose → Place → List ℕ → Place → List ℕ → Type 0
+AddsDoses ds at out at2 out2 =
+    (h : Head) (ws : List Written) (w : Written) (old : List ℕ) → HasRoom old (ws ++ (withDoses w ds ∷ [])) →
+    Holds h (ws ++ (w ∷ [])) old at out → Holds h (ws ++ (withDoses w ds ∷ [])) old at2 out2

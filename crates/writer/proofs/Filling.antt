@@ -1,0 +1,91 @@
+-- The writer's stores into a block or a record make the bytes that are laid out, and these are as long as they should be.
+-- Assumes nothing.
+use Prim.Native.Nat.{ℕ, _+_, _-_, _≤_}
+use mathlib.Core.List.{List, [], _∷_, _++_}
+use mathlib.Core.Path.{_≡_, refl, sym, _∙_}
+use native.Mathlib.Omega.{arith}
+use lib.ListN.{length, take, drop, replicate, length-append, length-replicate, replicate-append-replicate}
+use lib.Seq.{length-take-le, take-at, drop-at, take-all, drop-append-add}
+use Rattle.block.specs.Bytes.{bytesOf, put}
+use Rattle.block.proofs.Put.{put-in, length-put}
+use Rattle.plan.specs.declared.Dose.{Dose}
+use Rattle.layout.specs.Layout.{filled, headBytes, periodStart, continuationStart, doseBytes}
+use Rattle.layout.specs.declared.Head.{Head}
+use Rattle.layout.specs.declared.Header.{Header}
+
+-- a head, field by field into a cleared block
+pub head-filled : (h : Head) → put (put (put (put (put (put (put (replicate 512 0) 0 (1 ∷ 0 ∷ [])) 2 (bytesOf 2 (h .unit))) 4 (bytesOf 4 (h .start))) 8 (bytesOf 4 (h .end))) 12 (bytesOf 4 (h .number))) 16 (bytesOf 4 (h .revision))) 20 (h .vka ∷ []) ≡ headBytes h 0
+unfolding put bytesOf headBytes filled
+head-filled h = refl
+
+-- a period's start, and a continuation's
+pub period-filled : (q : Header) → put (put (put (put (replicate 512 0) 0 (2 ∷ 0 ∷ [])) 2 (bytesOf 2 (q .interval))) 4 (bytesOf 4 (q .first))) 8 (bytesOf 4 (q .end)) ≡ filled (periodStart q 0)
+unfolding put bytesOf periodStart filled
+period-filled q = refl
+
+pub continuation-filled : put (replicate 512 0) 0 (3 ∷ 0 ∷ []) ≡ filled (continuationStart 0)
+unfolding put continuationStart filled
+continuation-filled = refl
+
+-- bytes put one run behind the other into s, of n bytes: so far f
+record Front (n : ℕ) (f s : List ℕ) : Type 0 where
+  pub front : take (length f) s ≡ f
+  pub whole : length s ≡ n
+
+front-more : {n : ℕ} {f s : List ℕ} → Front n f s → (a : ℕ) (bs : List ℕ) → length f ≡ a → a + length bs ≤ n → Front n (f ++ bs) (put s a bs)
+front-more {n} {f} {s} o a bs e h =
+    let k : a + length bs ≤ length s = omega (arith, o .whole) in
+    let m : length (take a s ++ bs) ≡ a + length bs = rw length-append (omega (arith, length-take-le a s (omega arith))) in
+    let t : take a s ≡ f = rw (← e) (o .front) in
+    record {
+      front = rw (length-append, e, put-in s a bs k, take-at (take a s ++ bs) (drop (a + length bs) s) (a + length bs) m, t);
+      whole = length-put s a bs ∙ o .whole;
+    }
+
+front-all : {n : ℕ} {f s : List ℕ} → Front n f s → length f ≡ n → s ≡ f
+front-all {n} {f} {s} o e = sym (take-all (length f) s (omega (arith, o .whole))) ∙ o .front
+
+-- a dose, field by field over any record
+pub dose-filled : (s : List ℕ) (d : Dose) → length s ≡ 24 → put (put (put (put (put (put s 0 (bytesOf 2 (d .day))) 2 (d .kind ∷ d .mark ∷ [])) 4 (bytesOf 2 (d .minute))) 6 (0 ∷ 0 ∷ [])) 8 (bytesOf 8 (d .low))) 16 (bytesOf 8 (d .high)) ≡ doseBytes d
+unfolding bytesOf doseBytes
+dose-filled s d n =
+    let none : Front 24 [] s = record { front = refl; whole = n } in
+    let day = front-more none 0 (bytesOf 2 (d .day)) refl (omega arith) in
+    let kind = front-more day 2 (d .kind ∷ d .mark ∷ []) refl (omega arith) in
+    let minute = front-more kind 4 (bytesOf 2 (d .minute)) refl (omega arith) in
+    let zeros = front-more minute 6 (0 ∷ 0 ∷ []) refl (omega arith) in
+    let low = front-more zeros 8 (bytesOf 8 (d .low)) refl (omega arith) in
+    let high = front-more low 16 (bytesOf 8 (d .high)) refl (omega arith) in
+    front-all high refl
+
+-- bytes put behind those that a block holds so far
+pub front-filled : (bs vs : List ℕ) → length bs + length vs ≤ 512 → put (filled bs) (length bs) vs ≡ filled (bs ++ vs)
+unfolding filled
+front-filled bs vs h =
+    let z : List ℕ = replicate (512 - length bs) 0 in
+    let n : length (bs ++ z) ≡ 512 = rw (length-append, length-replicate) (omega arith) in
+    let k : 512 - length bs ≡ length vs + (512 - (length bs + length vs)) = omega arith in
+    let r : drop (length vs) z ≡ replicate (512 - (length bs + length vs)) 0 =
+    rw (k, ← replicate-append-replicate) (drop-at (replicate (length vs) 0) (replicate (512 - (length bs + length vs)) 0) (length vs) (length-replicate (length vs) 0)) in
+    rw (put-in (bs ++ z) (length bs) vs (omega arith), take-at bs z (length bs) refl, drop-append-add bs z (length vs), r, length-append)
+
+-- what is filled up is a whole block
+pub length-filled : (bs : List ℕ) → length bs ≤ 512 → length (filled bs) ≡ 512
+unfolding filled
+length-filled bs h = simp (length-append, length-replicate) (omega arith)
+
+pub length-head : (h : Head) (n : ℕ) → length (headBytes h n) ≡ 512
+unfolding headBytes filled bytesOf
+length-head h n = refl
+
+pub length-period : (q : Header) (n : ℕ) → length (periodStart q n) ≡ 24
+unfolding periodStart bytesOf
+length-period q n = refl
+
+pub length-continuation : (n : ℕ) → length (continuationStart n) ≡ 24
+unfolding continuationStart
+length-continuation n = refl
+
+pub length-dose : (d : Dose) → length (doseBytes d) ≡ 24
+unfolding doseBytes bytesOf
+length-dose d = refl
