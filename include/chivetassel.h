@@ -26,12 +26,16 @@ extern "C" {
 #define CHIVETASSEL_LAST_DAY 73048u
 #define CHIVETASSEL_OPEN 4294967295u
 
+/* The bytes that each of split's two buffers must have. */
+#define CHIVETASSEL_PART_ROOM 32768u
+
 /* Refusals of the calls below, beside the rules 1 to 17 of the verdict. */
 #define CHIVETASSEL_PACK_TOO_LARGE 20u      /* above 1,000,000,000,000 */
 #define CHIVETASSEL_BAD_PAUSES 21u          /* more than 32, one that is no stretch of days, or a length that is no multiple of 8 */
 #define CHIVETASSEL_BAD_START 22u           /* above the last day */
 #define CHIVETASSEL_BAD_CHOICE 23u          /* not 1 or 2 */
 #define CHIVETASSEL_NOTHING_TO_SUPPLY 24u   /* no fixed or mixed period, or the start lies after the stop day */
+#define CHIVETASSEL_SHORT_PART_BUFFER 25u   /* split: one of the two buffers has less than CHIVETASSEL_PART_ROOM bytes */
 #define CHIVETASSEL_SHORT_BUFFER 26u        /* the buffer is too short; given ahead of all else */
 
 /* The verdict on a plan: CHIVETASSEL_DONE exactly where no rule is broken, else the lowest broken rule, 1 to 17, and the
@@ -46,6 +50,20 @@ uint32_t chivetassel_verdict(const uint8_t *plan, size_t plan_len);
    refused call writes nothing. */
 uint32_t chivetassel_supply(const uint8_t *plan, size_t plan_len, uint32_t start, uint64_t pack, uint32_t choice,
                             const uint8_t *pauses, size_t pauses_len, uint8_t *out, size_t out_len);
+
+/* Splits a plan into its fixed and its as-needed part. `fixed` and `need` have at least CHIVETASSEL_PART_ROOM bytes each, `out`
+   at least 16; none overlaps another or the plan. Where the call is not refused, each part stands at the beginning of its
+   buffer, and `out` gets two 64-bit numbers, least byte first: the length of the fixed part and that of the need part. Bytes
+   behind a part stay as they were. A refused call writes nothing, nowhere. */
+uint32_t chivetassel_split(const uint8_t *plan, size_t plan_len, uint8_t *fixed, size_t fixed_len, uint8_t *need,
+                           size_t need_len, uint8_t *out, size_t out_len);
+
+/* Where in a part the blocks of its first period lie that has `day`: list 1 asks of the fixed part, 2 of the need part. Both
+   are given by their own lengths, as split says them. `out`, at least 16 bytes, gets two 64-bit numbers, least byte first:
+   where the blocks begin in the wanted part, and how many bytes they are. Both are 0 for another list number, for a part that
+   breaks one of rules 1 to 4, and where no period has the day. Refused only with CHIVETASSEL_SHORT_BUFFER. */
+uint32_t chivetassel_show_day(const uint8_t *fixed, size_t fixed_len, const uint8_t *need, size_t need_len, uint32_t list,
+                              uint32_t day, uint8_t *out, size_t out_len);
 
 /* The four sums of a day's doses, into `out` as above: unmarked low, unmarked upper, marked low, marked upper. A plan that is
    not accepted is refused as by the verdict; a day that no period has gets four zeros. */

@@ -9,66 +9,7 @@ byte first. Both files are kept in the repository: the program is run on them, a
 import os
 import struct
 
-OPEN = 0xFFFFFFFF
-MOST = 9_999_999_999
-
-
-def dose(day=1, kind=0, mark=0, minute=0, low=100, high=0, rest=0):
-    return struct.pack("<HBBHHQQ", day, kind, mark, minute, rest, low, high)
-
-
-def seal(block):
-    first = second = 0
-    for (word,) in struct.iter_unpack("<I", block[:504]):
-        first = (first + word) & 0xFFFFFFFF
-        second = (second + first) & 0xFFFFFFFF
-    return block[:504] + struct.pack("<II", first, second)
-
-
-def block(start, body=b""):
-    return seal((start.ljust(24, b"\0") + body).ljust(512, b"\0"))
-
-
-def period(first, last, doses=(), interval=0):
-    """The period's block and its continuation blocks."""
-    doses = list(doses)
-    blocks = [block(struct.pack("<BBHII", 2, len(doses[:20]), interval, first, last), b"".join(doses[:20]))]
-    for at in range(20, len(doses), 20):
-        blocks.append(block(struct.pack("<BB", 3, len(doses[at:at + 20])), b"".join(doses[at:at + 20])))
-    return blocks
-
-
-def plan(*periods, start=0, end=OPEN, number=1, revision=1, vka=0, count=None):
-    blocks = [b for p in periods for b in p]
-    further = len(blocks) if count is None else count
-    head = block(struct.pack("<BBHIIIIB", 1, further, 7, start, end, number, revision, vka))
-    return head + b"".join(blocks)
-
-
-def damaged(plan, at, byte, sealed=True):
-    """The plan with one byte changed; `sealed`: that block's sums made right again."""
-    b = at // 512 * 512
-    plan = plan[:at] + bytes([byte]) + plan[at + 1:]
-    return plan[:b] + seal(plan[b:b + 512]) + plan[b + 512:] if sealed else plan
-
-
-FIXED, NEED, MIXED = [dose()], [dose(mark=1)], [dose(), dose(mark=1)]
-
-
-def fixed(first, last):
-    return period(first, last, FIXED, 1)
-
-
-def need(first, last):
-    return period(first, last, NEED, 1)
-
-
-def mixed(first, last):
-    return period(first, last, MIXED, 1)
-
-
-def empty(first, last):
-    return period(first, last)
+from plans import MOST, OPEN, block, damaged, dose, empty, fixed, mixed, need, period, plan
 
 
 def daily(doses, first=8000, last=OPEN):

@@ -157,3 +157,35 @@ module _ {A B : Type 0} (f : A → List B) where
   unfolding joinBelow joinOver
   over-join zero g = refl
   over-join (suc n) g = over-append (joinBelow n g) (g n) ∙ rw (over-join n g)
+
+-- keeping what has one test and then what has another
+module _ {A : Type 0} where
+  keep-both : (p q : A → Bool) (x : A) (xs ys : List A) → keep p xs ≡ keep q ys → (s t : Bool) → p x ≡ s → q x ≡ t → keep p (cond t (x ∷ xs) xs) ≡ keep q (cond s (x ∷ ys) ys)
+  unfolding keep
+  keep-both p q x xs ys h true true e f = rw (e, f) (ap (λ (l : List A). x ∷ l) h)
+  keep-both p q x xs ys h true false e f = rw f h
+  keep-both p q x xs ys h false true e f = rw e h
+  keep-both p q x xs ys h false false e f = h
+
+  pub keep-swap : (p q : A → Bool) (xs : List A) → keep p (keep q xs) ≡ keep q (keep p xs)
+  unfolding keep
+  keep-swap p q [] = refl
+  keep-swap p q (x ∷ xs) = keep-both p q x (keep q xs) (keep p xs) (keep-swap p q xs) (p x) (q x) refl refl
+
+  -- a list with a test, made in one go
+  pub pick-keep : (n : ℕ) (p : A → Bool) (f : ℕ → A) → pickBelow n (λ j. p (f j)) f ≡ keep p (listBelow n f)
+  unfolding pickBelow listBelow keep
+  pick-keep zero p f = refl
+  pick-keep (suc n) p f = rw (pick-keep n p f) (sym (keep-append p (listBelow n f) (f n ∷ [])))
+
+  -- none has it
+  pub keep-none : (n : ℕ) (p : A → Bool) (f : ℕ → A) → ((j : ℕ) → j < n → p (f j) ≡ false) → keep p (listBelow n f) ≡ []
+  unfolding listBelow keep
+  keep-none zero p f h = refl
+  keep-none (suc n) p f h =
+      keep-append p (listBelow n f) (f n ∷ []) ∙ rw (keep-none n p f (λ j l. h j (omega arith)), h n (omega arith))
+
+  pub keep-cond : (p : A → Bool) (t : Bool) (xs : List A) → keep p (cond t xs []) ≡ cond t (keep p xs) []
+  unfolding keep
+  keep-cond p true xs = refl
+  keep-cond p false xs = refl

@@ -4,4 +4,5 @@ pub mod Put
 pub mod Sealing
 pub mod Joining
 pub mod Zero
+pub mod Pieces
 pub mod Paper

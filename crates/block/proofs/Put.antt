@@ -2,10 +2,10 @@
 use Prim.Native.Nat.{ℕ, _+_, _-_, _^_, _≤_, _<_}
 use mathlib.Core.List.{List, _++_, append-assoc}
 use mathlib.Core.Logic.{_⊎_, ⊎-elim}
-use mathlib.Core.Path.{_≡_, sym, ap, _∙_}
+use mathlib.Core.Path.{_≡_, refl, sym, ap, _∙_}
 use native.Mathlib.Omega.{arith}
 use lib.ListN.{length, take, drop, length-append, length-drop, take-append-drop, List·getD-append}
-use lib.Seq.{length-take-le, getD-append-add, getD-take, getD-drop, drop-drop, sets, sets-eq}
+use lib.Seq.{length-take-le, getD-append-add, getD-take, getD-drop, take-at, drop-at, drop-drop, ext-getD, sets, sets-eq}
 use borrow.Author.Tests.{le-leb, lt-leb}
 use borrow.Rule.Slice.PartMut.{putMid, post-is}
 use Rattle.below.proofs.Tests.{le-or-lt}
@@ -70,6 +70,29 @@ module _ (s : List ℕ) (i : ℕ) (bs : List ℕ) where
   -- a run of stores, byte by byte, puts them
   pub stores-put : i + length bs ≤ length s → sets s i bs ≡ put s i bs
   stores-put h = sets-eq bs s i h ∙ sym (put-in h)
+
+-- the bytes that were put are a part of what they were put into; a part apart from them is as it was
+module _ (s : List ℕ) (i : ℕ) (bs : List ℕ) where
+  pub part-put-here : i + length bs ≤ length s → take (length bs) (drop i (put s i bs)) ≡ bs
+  part-put-here h =
+      rw (put-in s i bs h, append-assoc (take i s) bs (drop (i + length bs) s), drop-at (take i s) (bs ++ drop (i + length bs) s) i (length-take-le i s (omega arith)))
+      (take-at bs (drop (i + length bs) s) (length bs) refl)
+
+  pub part-put-apart : (a n : ℕ) → (a + n ≤ i) ⊎ (i + length bs ≤ a) → a + n ≤ length s → take n (drop a (put s i bs)) ≡ take n (drop a s)
+  part-put-apart a n apart h =
+      let x : length (take n (drop a (put s i bs))) ≡ n = length-take-le n _ (rw (length-drop, length-put s i bs) (omega arith)) in
+      let y : length (take n (drop a s)) ≡ n = length-take-le n _ (rw length-drop (omega arith)) in
+      ext-getD 0 (take n (drop a (put s i bs))) (take n (drop a s)) (x ∙ sym y)
+      (λ k l.
+      let q : k < n = rw x at l in
+      rw (getD-take n (drop a (put s i bs)) k 0 q, getD-take n (drop a s) k 0 q, getD-drop a (put s i bs) k 0, getD-drop a s k 0)
+      (⊎-elim (λ g. put-ahead s i bs (a + k) (omega arith)) (λ g. put-behind s i bs (a + k) (omega arith)) apart))
+
+  -- and so is all that is behind them
+  pub rest-put : (a : ℕ) → i + length bs ≤ a → drop a (put s i bs) ≡ drop a s
+  rest-put a h =
+      ext-getD 0 (drop a (put s i bs)) (drop a s) (rw (length-drop, length-drop, length-put s i bs))
+      (λ k l. rw (getD-drop a (put s i bs) k 0, getD-drop a s k 0) (put-behind s i bs (a + k) (omega arith)))
 
 -- lists that agree ahead of what is put into both agree up to its end
 pub put-same : (s t : List ℕ) (i : ℕ) (bs : List ℕ) → i + length bs ≤ length s → length s ≡ length t → ((j : ℕ) → j < i → byteAt s j ≡ byteAt t j) →

@@ -10,7 +10,6 @@ use lib.Dec.{ltb}
 use borrow.Author.Tests.{ne-eqb}
 use Rattle.below.specs.Below.{anyBelow}
 use Rattle.below.proofs.Search.{first-is, first-none}
-use Rattle.below.proofs.Tests.{le-or-lt}
 use Rattle.plan.specs.Fields.{isMarked}
 use Rattle.plan.specs.Periods.{blockAt, dosesOf, doseIn, hasUnmarked, hasMarked, classBy, classOf}
 use Rattle.period.specs.declared.turn.Walk.{Walk}

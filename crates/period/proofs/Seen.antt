@@ -3,15 +3,15 @@ use Prim.Native.Nat.{ℕ, _+_, _-_, _≤_, _<_}
 use mathlib.Core.Bool.{Bool, true, false, not, _&&_, _||_}
 use mathlib.Core.List.{List}
 use mathlib.Core.Logic.{⊎-elim}
-use mathlib.Core.Path.{_≡_, refl, sym, _∙_}
+use mathlib.Core.Path.{_≡_, sym, _∙_}
 use native.Mathlib.Omega.{arith}
 use lib.Dec.{eqb, leb, ltb}
-use lib.ListN.{length, getD, set, replicate, length-replicate, length-set, getD-replicate}
+use lib.ListN.{getD, set, replicate, length-replicate, length-set, getD-replicate}
 use lib.Seq.{getD-set-same, getD-set-other}
 use borrow.Author.Count.{below-more}
 use borrow.Author.Tests.{eq-eqb, eqb-true, eqb-false, ne-eqb, ltb-true, ltb-false, lt-ltb, le-ltb, le-leb, leb-true}
 use Rattle.below.specs.Below.{anyBelow}
-use Rattle.below.proofs.Search.{any-hit, any-some, any-not, any-none}
+use Rattle.below.proofs.Search.{any-hit, any-some}
 use Rattle.below.proofs.Tests.{bool-cases, true-not-false, not-true-false, bool-iff, and-both, both-and, or-either, or-true}
 use Rattle.plan.specs.declared.Dose.{Dose}
 use Rattle.period.specs.Doses.{sameDay, isTimed, twice}

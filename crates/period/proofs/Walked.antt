@@ -9,7 +9,7 @@ use native.Mathlib.Numerals.{add-one}
 use native.Mathlib.Omega.{arith}
 use lib.Dec.{eqb, leb, ltb}
 use borrow.Author.Count.{below-more}
-use borrow.Author.Tests.{lt-ltb, le-ltb, le-leb, ltb-true, ltb-false, leb-false, eqb-true, eqb-false, eq-eqb, ne-eqb, not-true}
+use borrow.Author.Tests.{lt-ltb, le-ltb, ltb-true, ltb-false, leb-false, eqb-true, eqb-false, eq-eqb, ne-eqb, not-true}
 use Rattle.below.specs.Below.{firstBelow, anyBelow, countBelow, sumBelow, largestBelow}
 use Rattle.below.proofs.Search.{NoneBelow, none-more, first-facts, any-hit, any-none, any-not, any-some}
 use Rattle.below.proofs.Tests.{bool-cases, true-not-false, not-true-false, bool-iff, and-both, both-and, or-neither, le-or-lt}

@@ -1,8 +1,8 @@
 -- What was added by one call and then by another. Assumes nothing.
-use Prim.Native.Nat.{ℕ, _+_, _*_, _≤_, _<_}
+use Prim.Native.Nat.{ℕ, _+_, _≤_}
 use mathlib.Core.Bool.{Bool, true, false, _&&_, _||_}
 use mathlib.Core.List.{List, [], _∷_, _++_, append-assoc, append-nil}
-use mathlib.Core.Path.{_≡_, refl, sym, ap, _∙_}
+use mathlib.Core.Path.{_≡_, refl, _∙_}
 use native.Mathlib.Omega.{arith}
 use lib.Dec.{eqb}
 use lib.ListN.{length, length-append}
@@ -10,12 +10,10 @@ use Rattle.below.proofs.Lists.{over-append}
 use Rattle.plan.specs.declared.Dose.{Dose}
 use Rattle.plan.specs.Periods.{isPeriod, mixed, classOf}
 use Rattle.layout.specs.Layout.{Written, bodyOf, blocksFor}
-use Rattle.layout.specs.declared.Head.{Head}
 use Rattle.layout.specs.declared.Header.{Header}
 use Rattle.verdict.specs.Groups.{isMember}
 use Rattle.writer.specs.declared.Place.{Place}
 use Rattle.writer.specs.Steps.{periodAdded, periodPlace, doseAdded, dosePlace}
-use Rattle.writer.specs.Holds.{inLast, Holds}
 use Rattle.writer.proofs.Holding.{holds-period, holds-dose, last-doses}
 use Rattle.writer.proofs.Laying.{length-body-last, blocks-are, one-dose-more, without-room}
 use Rattle.split.specs.Parts.{isDosedIn}

@@ -1,25 +1,24 @@
 -- Demand 3 for split: on each day the doses of a part are the plan's doses of its mark, in their order. Assumes nothing.
-use Prim.Native.Nat.{ℕ, zero, suc, _+_, _≤_, _<_, min}
-use mathlib.Core.Bool.{Bool, true, false, cond, not, _&&_, _||_, Bool·beq}
-use mathlib.Core.List.{List, [], _∷_, _++_, append-nil}
+use Prim.Native.Nat.{ℕ, _≤_}
+use mathlib.Core.Bool.{Bool, true, false, cond, not, _&&_, _||_}
+use mathlib.Core.List.{List, [], _∷_, append-nil}
 use mathlib.Core.Logic.{⊎-elim}
 use mathlib.Core.Path.{_≡_, refl, sym, ap, _∙_}
 use native.Mathlib.Nat.{min-eq-left}
 use native.Mathlib.Omega.{arith}
 use lib.Dec.{eqb, leb}
 use borrow.Author.Tests.{not-false}
-use Rattle.below.specs.Below.{anyBelow}
-use Rattle.below.specs.Lists.{listBelow, pickBelow, joinBelow, keep, joinOver}
-use Rattle.below.proofs.Lists.{join-same, join-none, keep-append, keep-join, over-append, over-join, over-one}
-use Rattle.below.proofs.Search.{any-hit, any-not}
-use Rattle.below.proofs.Tests.{bool-cases, true-not-false, not-true-false}
+use Rattle.below.specs.Lists.{keep, joinOver}
+use Rattle.below.proofs.Lists.{join-same, join-none, keep-swap, pick-keep, keep-none, keep-cond, keep-join, over-join, over-one}
+use Rattle.below.proofs.Search.{any-not}
+use Rattle.below.proofs.Tests.{bool-cases, true-not-false}
 use Rattle.block.proofs.Numbers.{AreBytes}
 use Rattle.day.specs.Days.{closedDay}
 use Rattle.plan.specs.declared.Dose.{Dose}
 use Rattle.plan.specs.Fields.{isMarked}
-use Rattle.plan.specs.Periods.{blocksOf, blockAt, isPeriod, dosesOf, doseIn, hasUnmarked, hasMarked, fixed, mixed, need, classBy, classOf}
+use Rattle.plan.specs.Periods.{blocksOf, blockAt, isPeriod, dosesOf, doseIn, hasUnmarked, hasMarked, mixed, classBy, classOf}
 use Rattle.doses.specs.Doses.{covers, positionOf, applies, dosesOfPeriod, dosesOn}
-use Rattle.layout.specs.Layout.{Written, bodyOf, laidOut}
+use Rattle.layout.specs.Layout.{Written, laidOut}
 use Rattle.layout.specs.Reading.{headOf, headerAt, dosesAt, periodAt, periodsOf}
 use Rattle.layout.proofs.Back.{periods-read}
 use Rattle.layout.proofs.Blocks.{blocks-laid}
@@ -30,38 +29,6 @@ use Rattle.split.proofs.Adding.{dosed-is}
 use Rattle.split.proofs.Kept.{Kept, kept-few}
 use Rattle.split.proofs.Range.{part-fits}
 use Rattle.split.proofs.Room.{few-blocks}
-
--- keeping what has one test and then what has another
-module _ {A : Type 0} where
-  keep-both : (p q : A → Bool) (x : A) (xs ys : List A) → keep p xs ≡ keep q ys → (s t : Bool) → p x ≡ s → q x ≡ t → keep p (cond t (x ∷ xs) xs) ≡ keep q (cond s (x ∷ ys) ys)
-  unfolding keep
-  keep-both p q x xs ys h true true e f = rw (e, f) (ap (λ (l : List A). x ∷ l) h)
-  keep-both p q x xs ys h true false e f = rw f h
-  keep-both p q x xs ys h false true e f = rw e h
-  keep-both p q x xs ys h false false e f = h
-
-  keep-swap : (p q : A → Bool) (xs : List A) → keep p (keep q xs) ≡ keep q (keep p xs)
-  unfolding keep
-  keep-swap p q [] = refl
-  keep-swap p q (x ∷ xs) = keep-both p q x (keep q xs) (keep p xs) (keep-swap p q xs) (p x) (q x) refl refl
-
-  -- a list with a test, made in one go
-  pick-keep : (n : ℕ) (p : A → Bool) (f : ℕ → A) → pickBelow n (λ j. p (f j)) f ≡ keep p (listBelow n f)
-  unfolding pickBelow listBelow keep
-  pick-keep zero p f = refl
-  pick-keep (suc n) p f = rw (pick-keep n p f) (sym (keep-append p (listBelow n f) (f n ∷ [])))
-
-  -- none has it
-  keep-none : (n : ℕ) (p : A → Bool) (f : ℕ → A) → ((j : ℕ) → j < n → p (f j) ≡ false) → keep p (listBelow n f) ≡ []
-  unfolding listBelow keep
-  keep-none zero p f h = refl
-  keep-none (suc n) p f h =
-      keep-append p (listBelow n f) (f n ∷ []) ∙ rw (keep-none n p f (λ j l. h j (omega arith)), h n (omega arith))
-
-  keep-cond : (p : A → Bool) (t : Bool) (xs : List A) → keep p (cond t xs []) ≡ cond t (keep p xs) []
-  unfolding keep
-  keep-cond p true xs = refl
-  keep-cond p false xs = refl
 
 -- a choice of two tests
 cond-and : {A : Type 0} (s t : Bool) (xs : List A) → cond (s && t) xs [] ≡ cond s (cond t xs []) []

@@ -33,6 +33,15 @@ splitBy (Accepted n) p fixed need = cond (tooSmall fixed need) (Refused (alone 2
 unfoldable pub splitOf : List ℕ → List ℕ → List ℕ → Parted
 splitOf p fixed need = splitBy (verdictOf p) p fixed need
 
+-- document 01's number and values for either case: "both parts' lengths in bytes, zeros if refused"
+abbrev pub refusalIn : Parted → Refusal
+refusalIn (Parts n) = alone 0
+refusalIn (Refused r) = r
+
+abbrev pub lengthsIn : Parted → Lengths
+lengthsIn (Parts n) = n
+lengthsIn (Refused r) = record { fixed = 0; need = 0 }
+
 -- "Bytes behind a part stay as they were."
 unfoldable pub over : List ℕ → List ℕ → List ℕ
 over part out = part ++ drop (length part) out

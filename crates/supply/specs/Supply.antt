@@ -47,6 +47,15 @@ judgedOf p start pack choice pausesOut ps =
     let number = refusedBy start pack choice pausesOut (hasStop p) (stopDay p) in
     cond (eqb number 0) (Lasts (lastingOf (needOn choice p ps) start (stopDay p) pack)) (Refused (alone number))
 
+-- document 01's number and values for either case: "Refused: 0 days, open mark, rest 0, reason 0."
+abbrev pub refusalIn : Supply → Refusal
+refusalIn (Lasts x) = alone 0
+refusalIn (Refused r) = r
+
+abbrev pub lastingIn : Supply → Lasting
+lastingIn (Lasts x) = x
+lastingIn (Refused r) = record { days = 0; last = openMark; rest = 0; reason = 0 }
+
 -- "An answer is either the plan or its first broken rule": a refusal is passed on
 abbrev pub passedOn : Answer → Supply → Supply
 passedOn (Accepted n) s = s

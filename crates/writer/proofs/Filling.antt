@@ -68,24 +68,3 @@ front-filled bs vs h =
     let r : drop (length vs) z ≡ replicate (512 - (length bs + length vs)) 0 =
     rw (k, ← replicate-append-replicate) (drop-at (replicate (length vs) 0) (replicate (512 - (length bs + length vs)) 0) (length vs) (length-replicate (length vs) 0)) in
     rw (put-in (bs ++ z) (length bs) vs (omega arith), take-at bs z (length bs) refl, drop-append-add bs z (length vs), r, length-append)
-
--- what is filled up is a whole block
-pub length-filled : (bs : List ℕ) → length bs ≤ 512 → length (filled bs) ≡ 512
-unfolding filled
-length-filled bs h = simp (length-append, length-replicate) (omega arith)
-
-pub length-head : (h : Head) (n : ℕ) → length (headBytes h n) ≡ 512
-unfolding headBytes filled bytesOf
-length-head h n = refl
-
-pub length-period : (q : Header) (n : ℕ) → length (periodStart q n) ≡ 24
-unfolding periodStart bytesOf
-length-period q n = refl
-
-pub length-continuation : (n : ℕ) → length (continuationStart n) ≡ 24
-unfolding continuationStart
-length-continuation n = refl
-
-pub length-dose : (d : Dose) → length (doseBytes d) ≡ 24
-unfolding doseBytes bytesOf
-length-dose d = refl

@@ -21,10 +21,10 @@ use Rattle.layout.specs.declared.Header.{Header}
 use Rattle.writer.specs.declared.Place.{Place}
 use Rattle.writer.specs.Steps.{hasRoom, hasBegun, begun, begunPlace, periodAdded, periodPlace, dosePut, doseAdded, dosePlace, finished, finishedLength}
 use Rattle.writer.specs.Holds.{lying, inLast, lastDoses, Holds}
-use Rattle.writer.proofs.Filling.{length-filled, length-head, length-period, length-continuation, length-dose}
+use Rattle.layout.proofs.Blocks.{length-filled, length-head, length-period-start, length-continuation-start, length-dose, length-period, length-laid}
 use Rattle.writer.proofs.Room.{is-room, is-begun}
 use Rattle.writer.proofs.Lying.{Whole, Whole.none, Whole.more, whole-append, whole-list, length-lying, lying-more, lying-last, lying-first, lying-sealed}
-use Rattle.writer.proofs.Laying.{periodOf, length-block, whole-body, whole-plan, length-laid, body-last, length-body-last, empty-block, blocks-are, one-dose-more, with-room, without-room, ahead-same, block-more, next-block}
+use Rattle.writer.proofs.Laying.{periodOf, whole-body, whole-plan, body-last, length-body-last, empty-block, blocks-are, one-dose-more, with-room, without-room, ahead-same, block-more, next-block}
 
 -- the last period's last block is the last of all
 pub last-doses : (n : ℕ) (ws : List Written) (w : Written) → lastDoses n (ws ++ (w ∷ [])) ≡ inLast (length (w .doses))
@@ -68,7 +68,7 @@ module _ (h : Head) (ws : List Written) (old : List ℕ) (at : Place) (out : Lis
       let room : hasRoom out (at .blocks) ≡ true = is-room out (at .blocks) l (omega (arith, holds-length)) in
       let body : bodyOf (ws ++ (periodOf q [] ∷ [])) ≡ bodyOf ws ++ (p ∷ []) = body-last ws (periodOf q []) ∙ rw (empty-block q) in
       let put-there : put (lying bs old) (length bs * 512) p ≡ lying (bs ++ (p ∷ [])) old =
-      lying-more old (whole-plan h 0 ws) p (length-filled (periodStart q 0) (omega (arith, length-period q 0))) (omega arith) in
+      lying-more old (whole-plan h 0 ws) p (length-filled (periodStart q 0) (omega (arith, length-period-start q 0))) (omega arith) in
       rw room
       record {
         bytes = rw (body, o .bytes) (rw n at put-there);
@@ -101,7 +101,7 @@ dose-lying {bs} u q ds d old =
     let b = periodBlock (periodOf q ds) (length ds / 20) in
     let c = put b (24 + m * 24) (doseBytes d) in
     let i : length bs * 512 + 24 + m * 24 ≡ length bs * 512 + (24 + m * 24) = omega arith in
-    let n : length b ≡ 512 = length-block (periodOf q ds) (length ds / 20) in
+    let n : length b ≡ 512 = length-period (periodOf q ds) (length ds / 20) in
     let k : length c ≡ length b = length-put b (24 + m * 24) (doseBytes d) in
     rw (i, lying-last old u b (doseBytes d) (24 + m * 24) (omega (arith, length-dose d)), lying-last old u c ((m + 1) ∷ []) 1 (omega arith), block-more q ds d)
 
@@ -111,7 +111,7 @@ module _ (h : Head) (ws : List Written) (w : Written) where
   ahead = headBytes h 0 ∷ (bodyOf ws ++ listBelow (length (w .doses) / 20) (periodBlock w))
 
   whole-ahead : Whole ahead
-  whole-ahead = more (length-head h 0) (whole-append (whole-body ws) (whole-list (periodBlock w) (length-block w) (length (w .doses) / 20)))
+  whole-ahead = more (length-head h 0) (whole-append (whole-body ws) (whole-list (periodBlock w) (length-period w) (length (w .doses) / 20)))
 
   length-ahead : length ahead ≡ 1 + length (bodyOf ws) + length (w .doses) / 20
   length-ahead = omega (arith, length-append (bodyOf ws) (listBelow (length (w .doses) / 20) (periodBlock w)), length-list (length (w .doses) / 20) (periodBlock w))
@@ -156,7 +156,7 @@ module _ (h : Head) (ws : List Written) (w : Written) where
       let p = filled (continuationStart 0) in
       let begins : put out (at .blocks * 512) p ≡ lying (ahead ++ (periodBlock w (n / 20) ∷ [])) old =
       rw (o .bytes, body-full (full .0), k, next-block (w .header) (w .doses) (omega arith) (full .1))
-      (lying-more old u p (length-filled (continuationStart 0) (omega (arith, length-continuation 0))) (omega arith)) in
+      (lying-more old u p (length-filled (continuationStart 0) (omega (arith, length-continuation-start 0))) (omega arith)) in
       let goes : dosePut (put out (at .blocks * 512) p) (at .blocks) 0 d ≡ lying (headBytes h 0 ∷ bodyOf (ws ++ (v ∷ []))) old =
       rw (begins, k, body-more d) (rw (full .1) at (dose-lying u (w .header) (w .doses) d old)) in
       rw (ready, le-ltb _ _ l, free)

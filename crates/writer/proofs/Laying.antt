@@ -3,62 +3,42 @@ use Prim.Native.Nat.{ℕ, _+_, _-_, _*_, _/_, _%_, _≤_, _<_}
 use mathlib.Core.Bool.{Bool, true, false, cond}
 use mathlib.Core.List.{List, [], _∷_, _++_, append-assoc, append-nil}
 use mathlib.Core.Logic.{⊎-elim}
-use mathlib.Core.Path.{_≡_, refl, ap, _∙_}
+use mathlib.Core.Path.{_≡_, ap, _∙_}
 use native.Mathlib.Nat.{max-eq-left, max-eq-right}
 use native.Mathlib.Omega.{arith}
 use lib.Dec.{eqb}
-use lib.ListN.{length, drop, length-append, length-take, length-drop, drop-of-length-le}
+use lib.ListN.{length, drop, length-append, length-drop, drop-of-length-le}
 use lib.Seq.{take-all, take-append-le, drop-append-le}
 use borrow.Author.Tests.{ne-eqb}
 use Rattle.below.specs.Lists.{listBelow, joinOver}
 use Rattle.below.proofs.Lists.{list-same, length-list, over-append, over-one}
 use Rattle.below.proofs.Tests.{le-or-lt}
 use Rattle.block.specs.Bytes.{put}
-use Rattle.block.specs.Sums.{sealed}
 use Rattle.block.proofs.Put.{put-in}
-use Rattle.block.proofs.Sealing.{length-sealed}
 use Rattle.plan.specs.declared.Dose.{Dose}
-use Rattle.layout.specs.Layout.{Written, filled, headBytes, periodStart, continuationStart, doseBytes, dosesHere, periodBlock, blocksFor, bodyOf, laidOut}
+use Rattle.layout.specs.Layout.{Written, filled, headBytes, periodStart, continuationStart, doseBytes, dosesHere, periodBlock, blocksFor, bodyOf}
 use Rattle.layout.specs.declared.Head.{Head}
 use Rattle.layout.specs.declared.Header.{Header}
 use Rattle.writer.specs.Holds.{inLast}
-use Rattle.writer.proofs.Filling.{front-filled, length-filled, length-head, length-period, length-continuation, length-dose}
-use Rattle.writer.proofs.Lying.{Whole, Whole.none, Whole.more, whole-append, whole-list, length-over}
+use Rattle.layout.proofs.Blocks.{length-filled, length-head, length-period-start, length-continuation-start, length-dose, length-doses, length-period}
+use Rattle.writer.proofs.Filling.{front-filled}
+use Rattle.writer.proofs.Lying.{Whole, Whole.none, Whole.more, whole-append, whole-list}
 
 -- a block's start: a period's, or a continuation's
 abbrev startOf : Bool → Header → ℕ → List ℕ
 startOf t q n = cond t (periodStart q n) (continuationStart n)
 
 length-start : (t : Bool) (q : Header) (n : ℕ) → length (startOf t q n) ≡ 24
-length-start true q n = length-period q n
-length-start false q n = length-continuation n
-
-length-doses : (ds : List Dose) → length (joinOver doseBytes ds) ≡ length ds * 24
-unfolding joinOver
-length-doses [] = refl
-length-doses (d ∷ ds) = rw length-append (omega (arith, length-dose d, length-doses ds))
-
-here-fits : (i : ℕ) (ds : List Dose) → length (dosesHere i ds) ≤ 20
-here-fits i ds = rw length-take (omega arith)
-
-pub length-block : (w : Written) (i : ℕ) → length (periodBlock w i) ≡ 512
-unfolding periodBlock
-length-block w i =
-    let here = dosesHere i (w .doses) in
-    length-filled _ (rw length-append (omega (arith, length-start (eqb i 0) (w .header) (length here), length-doses here, here-fits i (w .doses))))
+length-start true q n = length-period-start q n
+length-start false q n = length-continuation-start n
 
 pub whole-body : (ws : List Written) → Whole (bodyOf ws)
 unfolding bodyOf joinOver
 whole-body [] = none
-whole-body (w ∷ ws) = whole-append (whole-list (periodBlock w) (length-block w) (blocksFor (length (w .doses)))) (whole-body ws)
+whole-body (w ∷ ws) = whole-append (whole-list (periodBlock w) (length-period w) (blocksFor (length (w .doses)))) (whole-body ws)
 
 pub whole-plan : (h : Head) (n : ℕ) (ws : List Written) → Whole (headBytes h n ∷ bodyOf ws)
 whole-plan h n ws = more (length-head h n) (whole-body ws)
-
--- a plan's length
-pub length-laid : (h : Head) (ws : List Written) → length (laidOut h ws) ≡ (1 + length (bodyOf ws)) * 512
-unfolding laidOut
-length-laid h ws = omega (arith, length-over sealed length-sealed (whole-plan h (length (bodyOf ws)) ws))
 
 -- one period more, behind the others
 pub body-last : (ws : List Written) (w : Written) → bodyOf (ws ++ (w ∷ [])) ≡ bodyOf ws ++ listBelow (blocksFor (length (w .doses))) (periodBlock w)
@@ -95,10 +75,10 @@ without-room n l = let b = blocks-are n in (omega arith, omega arith)
 count-put : (t : Bool) (q : Header) (m n : ℕ) (s : List ℕ) → length s ≤ 480 → put (filled (startOf t q m ++ s)) 1 (n ∷ []) ≡ filled (startOf t q n ++ s)
 unfolding filled periodStart continuationStart
 count-put true q m n s l =
-    let h : length (filled (startOf true q m ++ s)) ≡ 512 = length-filled (startOf true q m ++ s) (rw length-append (omega (arith, length-period q m))) in
+    let h : length (filled (startOf true q m ++ s)) ≡ 512 = length-filled (startOf true q m ++ s) (rw length-append (omega (arith, length-period-start q m))) in
     put-in (filled (startOf true q m ++ s)) 1 (n ∷ []) (omega arith)
 count-put false q m n s l =
-    let h : length (filled (startOf false q m ++ s)) ≡ 512 = length-filled (startOf false q m ++ s) (rw length-append (omega (arith, length-continuation m))) in
+    let h : length (filled (startOf false q m ++ s)) ≡ 512 = length-filled (startOf false q m ++ s) (rw length-append (omega (arith, length-continuation-start m))) in
     put-in (filled (startOf false q m ++ s)) 1 (n ∷ []) (omega arith)
 
 -- a period with these doses

@@ -20,7 +20,7 @@ use Rattle.layout.specs.declared.Header.{Header}
 use Rattle.writer.specs.declared.Place.{Place}
 use Rattle.writer.specs.Steps.{hasRoom, hasBegun, begun, begunPlace, periodAdded, periodPlace, dosePut, doseAdded, dosePlace, sealedFrom, finished, finishedLength}
 use Rattle.writer.proofs.Room.{room-is}
-use Rattle.writer.proofs.Filling.{length-filled, length-head, length-period, length-continuation, length-dose}
+use Rattle.layout.proofs.Blocks.{length-filled, length-head, length-period-start, length-continuation-start, length-dose}
 
 -- the buffer's part from block b on came back as the block p
 pub block-back : (out p : List ℕ) (b : ℕ) → (b + 1) * 512 ≤ length out → length p ≡ 512 → putMid (b * 512) (b * 512 + 512 - b * 512) out p ≡ put out (b * 512) p
@@ -46,7 +46,7 @@ module _ (out : List ℕ) (at : Place) (q : Header) where
   pub period-done : hasRoom out (at .blocks) ≡ true → (p : List ℕ) → p ≡ filled (periodStart q 0) → (putMid (at .blocks * 512) (at .blocks * 512 + 512 - at .blocks * 512) out p ≡ periodAdded out at q) × (record { blocks = at .blocks + 1; doses = 0 } ≡ periodPlace out at)
   unfolding periodAdded periodPlace
   period-done e p f =
-      let n : length (filled (periodStart q 0)) ≡ 512 = length-filled (periodStart q 0) (omega (arith, length-period q 0)) in
+      let n : length (filled (periodStart q 0)) ≡ 512 = length-filled (periodStart q 0) (omega (arith, length-period-start q 0)) in
       let g : putMid (at .blocks * 512) (at .blocks * 512 + 512 - at .blocks * 512) out p ≡ put out (at .blocks * 512) (filled (periodStart q 0)) =
       rw f (block-back out (filled (periodStart q 0)) (at .blocks) (room-is out (at .blocks) e .1) n) in
       rw e (g, refl)
@@ -76,7 +76,7 @@ module _ (out : List ℕ) (at : Place) (d : Dose) where
   pub dose-more : hasBegun out (at .blocks) 2 ≡ true → 20 ≤ at .doses → hasRoom out (at .blocks) ≡ true → (p s : List ℕ) → p ≡ filled (continuationStart 0) → s ≡ dosePut (putMid (at .blocks * 512) (at .blocks * 512 + 512 - at .blocks * 512) out p) (at .blocks) 0 d → (s ≡ doseAdded out at d) × (record { blocks = at .blocks + 1; doses = 1 } ≡ dosePlace out at)
   unfolding doseAdded dosePlace
   dose-more e l r p s f g =
-      let n : length p ≡ 512 = rw f (length-filled (continuationStart 0) (omega (arith, length-continuation 0))) in
+      let n : length p ≡ 512 = rw f (length-filled (continuationStart 0) (omega (arith, length-continuation-start 0))) in
       let k : putMid (at .blocks * 512) (at .blocks * 512 + 512 - at .blocks * 512) out p ≡ put out (at .blocks * 512) p =
       block-back out p (at .blocks) (room-is out (at .blocks) r .1) n in
       let m : s ≡ dosePut (put out (at .blocks * 512) (filled (continuationStart 0))) (at .blocks) 0 d = rw (g, k, f) in

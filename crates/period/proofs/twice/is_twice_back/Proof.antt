@@ -1,5 +1,5 @@
 use Prim.Native.Nat.{_-_, _≤_}
-use mathlib.Core.Path.{sym, _∙_}
+use mathlib.Core.Path.{sym}
 use borrow.Author.Needs.{needs}
 use Rattle.below.proofs.Search.{NoneBelow, none-zero, none-more, any-hit, any-end}
 use Rattle.plan.specs.Periods.{doseIn}
