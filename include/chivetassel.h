@@ -38,6 +38,17 @@ extern "C" {
 #define CHIVETASSEL_SHORT_PART_BUFFER 25u   /* split: one of the two buffers has less than CHIVETASSEL_PART_ROOM bytes */
 #define CHIVETASSEL_SHORT_BUFFER 26u        /* the buffer is too short; given ahead of all else */
 
+#define CHIVETASSEL_NOT_SOUND 30u           /* the register is not sound; of clear only: it has no slot */
+#define CHIVETASSEL_NO_SLOT_FREE 31u
+#define CHIVETASSEL_NOT_NEWER 32u           /* the number is held, and the revision is not greater */
+#define CHIVETASSEL_NOT_HELD 33u
+#define CHIVETASSEL_OTHER_BYTES 34u         /* the plan is not byte for byte the one that is held */
+#define CHIVETASSEL_NO_SIGNER 35u           /* signer 0 */
+#define CHIVETASSEL_SIGNED_ALREADY 36u      /* the signer is already the first */
+#define CHIVETASSEL_TWO_SIGNERS 37u         /* two signers stand */
+#define CHIVETASSEL_TOO_FEW_SIGNERS 38u     /* fewer than two */
+#define CHIVETASSEL_SHORT_ROOM 39u          /* release: the room has less than CHIVETASSEL_PLAN_ROOM bytes */
+
 /* The verdict on a plan: CHIVETASSEL_DONE exactly where no rule is broken, else the lowest broken rule, 1 to 17, and the
    lowest block that breaks it. */
 uint32_t chivetassel_verdict(const uint8_t *plan, size_t plan_len);
@@ -68,6 +79,35 @@ uint32_t chivetassel_show_day(const uint8_t *fixed, size_t fixed_len, const uint
 /* The four sums of a day's doses, into `out` as above: unmarked low, unmarked upper, marked low, marked upper. A plan that is
    not accepted is refused as by the verdict; a day that no period has gets four zeros. */
 uint32_t chivetassel_day_sums(const uint8_t *plan, size_t plan_len, uint32_t day, uint8_t *out, size_t out_len);
+
+/* The approval register is a lent buffer of slots of CHIVETASSEL_SLOT bytes, at most 64; bytes behind them are neither read nor
+   written. Begin with chivetassel_clear, and change the bytes by these calls alone: then the register is always sound, and
+   what is released is byte for byte the latest plan accepted under its number since that was last dropped or cleared, signed
+   since by two different signers. No buffer overlaps another. A refused call writes nothing, nowhere. */
+#define CHIVETASSEL_SLOT 16896u
+#define CHIVETASSEL_SLOTS_MOST 64u
+#define CHIVETASSEL_PLAN_ROOM 16384u
+
+/* Frees every slot, whatever stood there. Refused only with CHIVETASSEL_NOT_SOUND, where there is no slot. */
+uint32_t chivetassel_clear(uint8_t *reg, size_t reg_len);
+
+/* Takes an accepted plan in. A number that is held must come with a greater revision: it takes the old plan's place, and the
+   signatures are gone. */
+uint32_t chivetassel_submit(uint8_t *reg, size_t reg_len, const uint8_t *plan, size_t plan_len);
+
+/* Signs the plan as seen, which must be byte for byte the one held under its number. */
+uint32_t chivetassel_sign(uint8_t *reg, size_t reg_len, uint32_t signer, const uint8_t *plan, size_t plan_len);
+
+/* Puts the plan with this number, which two have signed, into `room`, and its length into the first 8 bytes of `out`, least
+   byte first. Bytes behind the plan stay as they were, and so does the register. */
+uint32_t chivetassel_release(const uint8_t *reg, size_t reg_len, uint32_t number, uint8_t *room, size_t room_len,
+                             uint8_t *out, size_t out_len);
+
+/* Frees the slot of the plan with this number. */
+uint32_t chivetassel_drop(uint8_t *reg, size_t reg_len, uint32_t number);
+
+/* The revision of the plan with this number and how many have signed it, 0 to 2, into `out` as two 64-bit numbers. */
+uint32_t chivetassel_state(const uint8_t *reg, size_t reg_len, uint32_t number, uint8_t *out, size_t out_len);
 
 #ifdef __cplusplus
 }

@@ -1,14 +1,14 @@
 -- Laws of lists that are made of 0, 1, .., n - 1, and of the elements of a list: one more, one list behind another, and sums
 -- over them. Assumes nothing.
-use Prim.Native.Nat.{ℕ, zero, suc, _+_, _≤_, _<_}
+use Prim.Native.Nat.{ℕ, zero, suc, _+_, _≤_, _<_, _*_}
 use mathlib.Core.Bool.{Bool, true, false, cond}
 use mathlib.Core.List.{List, [], _∷_, _++_, append-assoc, append-nil}
 use mathlib.Core.Path.{_≡_, refl, sym, ap, _∙_}
-use native.Mathlib.Nat.{add-zero, add-suc}
+use native.Mathlib.Nat.{add-zero, add-suc, suc-mul, zero-mul}
 use native.Mathlib.Numerals.{add-one}
 use native.Mathlib.Omega.{arith}
 use lib.ListN.{length, getD, take, drop, length-append, length-drop, List·getD-append}
-use lib.Seq.{getD-append-add, getD-take, getD-drop, length-take-le, ext-getD}
+use lib.Seq.{getD-append-add, getD-take, getD-drop, length-take-le, ext-getD, take-at, drop-at}
 use borrow.Author.Count.{below-more}
 use Rattle.below.specs.Below.{sumBelow}
 use Rattle.below.specs.Lists.{listBelow, pickBelow, joinBelow, keep, joinOver, sumOver}
@@ -189,3 +189,21 @@ module _ {A : Type 0} where
   unfolding keep
   keep-cond p true xs = refl
   keep-cond p false xs = refl
+
+-- lists of one length, one behind the other: how long they are together, and the one at i
+module _ {A : Type 0} (m : ℕ) (f : ℕ → List A) where
+  pub length-join : (n : ℕ) → ((i : ℕ) → i < n → length (f i) ≡ m) → length (joinBelow n f) ≡ n * m
+  unfolding joinBelow
+  length-join zero h = sym (zero-mul m)
+  length-join (suc n) h =
+      rw (length-append, length-join n (λ i l. h i (omega arith)), h n (omega arith)) (sym (suc-mul n m))
+
+  pub part-join : (n : ℕ) → ((i : ℕ) → i < n → length (f i) ≡ m) → (i : ℕ) → i < n → (t : List A) → take m (drop (i * m) (joinBelow n f ++ t)) ≡ f i
+  unfolding joinBelow
+  part-join zero h i l t = absurd (omega arith)
+  part-join (suc n) h i l t =
+      rw (append-assoc (joinBelow n f) (f n) t)
+      (below-more (λ (i : ℕ). take m (drop (i * m) (joinBelow n f ++ (f n ++ t))) ≡ f i) n
+      (λ i q. part-join n (λ i q. h i (omega arith)) i q (f n ++ t))
+      (rw (drop-at (joinBelow n f) (f n ++ t) (n * m) (length-join n (λ i q. h i (omega arith)))) (take-at (f n) t m (h n (omega arith))))
+      i (rw (← add-one n) at l))

@@ -14,6 +14,7 @@ use Rattle.supply.specs.declared.Supply.the-variants as supply
 use Rattle.split.specs.declared.Parted.{Parted}
 use Rattle.split.specs.declared.Parted.the-variants as split
 use Rattle.showing.specs.declared.Stretch.{Stretch}
+use Rattle.register.specs.Steps.{Answered, isDone}
 
 -- a buffer with numbers of 64 bits from byte i on
 unfoldable pub written : List ℕ → ℕ → List ℕ → List ℕ
@@ -48,6 +49,14 @@ splitOut out (split.Refused r) = out
 -- showing a day: where the stretch begins in the wanted part, and how many bytes it has
 abbrev pub stretchOut : List ℕ → Stretch → List ℕ
 stretchOut out s = written out 0 (s .at ∷ s .length ∷ [])
+
+-- release: "its length"; a refused call writes nothing
+abbrev pub releasedOut : List ℕ → Answered → List ℕ
+releasedOut out x = cond (isDone (x .refusal)) (written out 0 (x .length ∷ [])) out
+
+-- state: "revision and count of signers"
+abbrev pub stateOut : List ℕ → Answered → List ℕ
+stateOut out x = cond (isDone (x .refusal)) (written out 0 (x .revision ∷ x .signers ∷ [])) out
 
 -- a day's four sums likewise: unmarked low, unmarked upper, marked low, marked upper
 abbrev pub sumsOut : List ℕ → Answer → List (List ℕ) → List ℕ

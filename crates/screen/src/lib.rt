@@ -3,6 +3,12 @@ use block::put_long;
 use doses::day_sums;
 use refusal::Refusal;
 use refusal::done;
+use register::clear;
+use register::drop_plan;
+use register::release;
+use register::sign;
+use register::state_of;
+use register::submit;
 use showing::stretch_of;
 use split::Parted;
 use split::split;
@@ -17,11 +23,12 @@ ghost use mathlib.Core.List.{[], _∷_};
 ghost use Rattle.verdict.specs.Verdict.{verdictOf, codeOfAnswer};
 ghost use Rattle.doses.specs.Doses.{daySums};
 ghost use Rattle.supply.specs.Supply.{packedSupplyOf};
-ghost use Rattle.refusal.specs.Refusals.{doneCode};
+ghost use Rattle.refusal.specs.Refusals.{codeOf, doneCode};
 ghost use Rattle.split.specs.Parts.{partBytes};
 ghost use Rattle.split.specs.Split.{splitOf, leftBy};
 ghost use Rattle.showing.specs.Showing.{stretchOf};
-ghost use Rattle.screen.specs.Calls.{written, tooShort, code26, supplyCode, supplyOut, splitCode, splitOut, stretchOut, sumsOut};
+ghost use Rattle.register.specs.Steps.{Call.clear, Call.submit, Call.sign, Call.release, Call.drop as dropped, Call.state, answered, after, roomAfter};
+ghost use Rattle.screen.specs.Calls.{written, tooShort, code26, supplyCode, supplyOut, splitCode, splitOut, stretchOut, releasedOut, stateOut, sumsOut};
 
 // The verdict on a plan: the number plus 256 times the place.
 #[no_mangle]
@@ -135,4 +142,80 @@ pub extern "C" fn chivetassel_day_sums(plan: &[u8], day: u32, out: &mut [u8]) ->
     let sums = day_sums(plan, day);
     put_four(out, sums[0][0], sums[0][1], sums[1][0], sums[1][1]);
     done()
+}
+
+// Frees every slot of a register.
+#[no_mangle]
+pub extern "C" fn chivetassel_clear(register: &mut [u8]) -> u32
+    ensures { λ r. ⌜ r ≡ codeOf (answered (now (register .entry)) clear .refusal) ⌝ }
+    ensures { λ _. ⌜ now (register .exit) ≡ after (now (register .entry)) clear ⌝ }
+{
+    clear(register).code()
+}
+
+// Takes a plan into a register.
+#[no_mangle]
+pub extern "C" fn chivetassel_submit(register: &mut [u8], plan: &[u8]) -> u32
+    ensures { λ r. ⌜ r ≡ codeOf (answered (now (register .entry)) (submit (now (plan .entry))) .refusal) ⌝ }
+    ensures { λ _. ⌜ now (register .exit) ≡ after (now (register .entry)) (submit (now (plan .entry))) ⌝ }
+{
+    submit(register, plan).code()
+}
+
+// Signs a plan that is held.
+#[no_mangle]
+pub extern "C" fn chivetassel_sign(register: &mut [u8], signer: u32, plan: &[u8]) -> u32
+    ensures { λ r. ⌜ r ≡ codeOf (answered (now (register .entry)) (sign signer (now (plan .entry))) .refusal) ⌝ }
+    ensures { λ _. ⌜ now (register .exit) ≡ after (now (register .entry)) (sign signer (now (plan .entry))) ⌝ }
+{
+    sign(register, signer, plan).code()
+}
+
+// Gives a plan that two have signed.
+#[no_mangle]
+pub extern "C" fn chivetassel_release(
+    register: &[u8],
+    number: u32,
+    room: &mut [u8],
+    out: &mut [u8],
+) -> u32
+    ensures { λ r. ⌜ r ≡ cond (tooShort 8 (now (out .entry))) code26 (codeOf (answered (now (register .entry)) (release number (now (room .entry))) .refusal)) ⌝ }
+    ensures { λ _. ⌜ now (room .exit) ≡ cond (tooShort 8 (now (out .entry))) (now (room .entry)) (roomAfter (now (register .entry)) number (now (room .entry))) ⌝ }
+    ensures { λ _. ⌜ now (out .exit) ≡ cond (tooShort 8 (now (out .entry))) (now (out .entry)) (releasedOut (now (out .entry)) (answered (now (register .entry)) (release number (now (room .entry))))) ⌝ }
+{
+    if out.len() < 8 {
+        return Refusal::alone(26).code();
+    }
+    let x = release(register, number, room);
+    if x.refusal.number != 0 {
+        return x.refusal.code();
+    }
+    put_long(out, 0, x.length as u64);
+    x.refusal.code()
+}
+
+// Drops a plan.
+#[no_mangle]
+pub extern "C" fn chivetassel_drop(register: &mut [u8], number: u32) -> u32
+    ensures { λ r. ⌜ r ≡ codeOf (answered (now (register .entry)) (dropped number) .refusal) ⌝ }
+    ensures { λ _. ⌜ now (register .exit) ≡ after (now (register .entry)) (dropped number) ⌝ }
+{
+    drop_plan(register, number).code()
+}
+
+// A held plan's revision, and how many have signed it.
+#[no_mangle]
+pub extern "C" fn chivetassel_state(register: &[u8], number: u32, out: &mut [u8]) -> u32
+    ensures { λ r. ⌜ r ≡ cond (tooShort 16 (now (out .entry))) code26 (codeOf (answered (now (register .entry)) (state number) .refusal)) ⌝ }
+    ensures { λ _. ⌜ now (out .exit) ≡ cond (tooShort 16 (now (out .entry))) (now (out .entry)) (stateOut (now (out .entry)) (answered (now (register .entry)) (state number))) ⌝ }
+{
+    if out.len() < 16 {
+        return Refusal::alone(26).code();
+    }
+    let x = state_of(register, number);
+    if x.refusal.number != 0 {
+        return x.refusal.code();
+    }
+    put_two(out, x.revision as u64, x.signers as u64);
+    x.refusal.code()
 }

@@ -1,0 +1,21 @@
+use mathlib.Core.Path.{ap, _∙_}
+use Rattle.refusal.specs.Refusals.{codeOf}
+use Rattle.register.specs.Steps.{Answered}
+use borrow.Author.Needs.{needs}
+use Rattle.screen.proofs.chivetassel_drop.Statement.{statement}
+use Rattle.screen.proofs.chivetassel_drop.Tie as tie
+
+drop-plan-requires : tie.Need-drop-plan-requires
+drop-plan-requires c κs = search needs
+
+code-requires : tie.Need-code-requires
+code-requires c κs = search needs
+
+same-length : tie.Need-same-length
+same-length c = search needs
+
+returns : tie.Need-returns
+returns c = let s = c .before .before .before .drop-plan .ensures in (c .code .ensures ∙ ap (λ (a : Answered). codeOf (a .refusal)) (s .answer), s .bytes)
+
+pub chivetassel-drop-spec : {M : Type 1} → statement M
+chivetassel-drop-spec = tie.close (tie.spec drop-plan-requires code-requires same-length returns)
