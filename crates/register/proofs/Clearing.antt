@@ -15,7 +15,7 @@ use Rattle.refusal.specs.Refusals.{alone}
 use Rattle.register.specs.Slots.{slotsOf, withSlot, heldAt, isHeld}
 use Rattle.register.specs.Sound.{sound}
 use Rattle.register.specs.Steps.{Call.clear, Call.drop as dropped, done, refusedBy, freeSlot, changed, given, nothingBut}
-use Rattle.register.proofs.Reading.{slot-fits}
+use Rattle.register.proofs.Update.{slot-within}
 use Rattle.register.proofs.Writing.{length-slot-bytes}
 
 length-free : length freeSlot ≡ 16896
@@ -36,7 +36,7 @@ module _ (r : List ℕ) where
 
   pub clear-turn : (i : ℕ) → i < slotsOf r → {s t : List ℕ} → s ≡ freed i ++ from (i * 16896) r → length s ≡ length r → t ≡ withSlot s i freeSlot → (length t ≡ length r) × (t ≡ freed (i + 1) ++ from ((i + 1) * 16896) r)
   clear-turn i l {s} {t} e n f =
-      let fits : i * 16896 + length freeSlot ≤ length s = omega (arith, slot-fits r i l, length-free) in
+      let fits : i * 16896 + length freeSlot ≤ length s = omega (arith, slot-within r i l, length-free) in
       let ahead : take (i * 16896) s ≡ freed i = rw e (take-at (freed i) (from (i * 16896) r) (i * 16896) (length-freed i)) in
       let next : i * 16896 + 16896 ≡ (i + 1) * 16896 = omega arith in
       let there : i * 16896 + 16896 ≡ length (freed i) + 16896 = omega (arith, length-freed i) in

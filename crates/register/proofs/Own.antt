@@ -7,13 +7,13 @@ use mathlib.Core.Logic.{⊎-elim}
 use mathlib.Core.Path.{_≡_, refl, sym, ap, _∙_}
 use native.Mathlib.Omega.{arith}
 use lib.Dec.{eqb, ltb}
-use lib.ListN.{length, take, drop, replicate, length-append, length-drop, length-replicate, take-append-drop, List·getD-append, List·getD-eq-default}
+use lib.ListN.{length, take, drop, replicate, length-drop, take-append-drop, List·getD-append, List·getD-eq-default}
 use lib.Seq.{take-at, drop-at, drop-drop, length-take-le, getD-take, getD-drop}
 use borrow.Author.Tests.{eq-eqb, eqb-true, eqb-false, ne-eqb, le-leb, leb-true, ltb-false, not-false}
 use Rattle.below.proofs.Tests.{true-not-false, and-both, both-and, or-neither, le-or-lt}
 use Rattle.block.proofs.Numbers.{AreBytes, number-same, number-bytes}
 use Rattle.block.proofs.Pieces.{piece-byte, piece-number}
-use Rattle.block.proofs.Sealing.{length-sealed, sealed-right, sealed-again}
+use Rattle.block.proofs.Sealing.{sealed-right, sealed-again}
 use Rattle.block.proofs.Zero.{at-zero, zero-at, zeros, zeros-zero}
 use Rattle.block.specs.Bytes.{byteAt, numberAt, bytesOf, isZero}
 use Rattle.block.specs.Sums.{sealed, sumsRight}
@@ -27,6 +27,7 @@ use Rattle.verdict.specs.Verdict.{verdictOf}
 use Rattle.register.specs.Slots.{blocksIn, firstSigner, secondSigner, isFree, planIn, restOf, controlBytes, slotBytes}
 use Rattle.register.specs.Sound.{isAccepted, controlRight, signersRight, slotRight}
 use Rattle.register.specs.Steps.{freeSlot}
+use Rattle.register.proofs.Writing.{length-control, length-slot-bytes as slot-long}
 
 -- a plan that a slot has room for: whole blocks, at most 32
 pub record Whole (p : List ℕ) : Type 0 where
@@ -46,9 +47,6 @@ module _ (k a b : ℕ) where
   unfolding controlBytes named
   control-is = refl
 
-  pub length-control : length (controlBytes k a b) ≡ 512
-  length-control = rw control-is (length-sealed (filled named) (length-filled named (omega (arith, length-named))))
-
   control-byte : (j : ℕ) → j < 504 → byteAt (controlBytes k a b) j ≡ byteAt named j
   control-byte j l = rw control-is (byte-sealed named (omega (arith, length-named)) j l)
 
@@ -57,9 +55,7 @@ module _ (k a b : ℕ) where
 
 module _ (p : List ℕ) (a b : ℕ) where
   pub length-slot-bytes : Whole p → length (slotBytes p a b) ≡ 16896
-  unfolding slotBytes
-  length-slot-bytes w =
-      rw (length-append, length-control (length p / 512) a b, length-append, length-replicate) (omega (arith, w .most))
+  length-slot-bytes w = slot-long p a b (w .most)
 
   -- its control block, and the room behind that
   pub control-back : take 512 (slotBytes p a b) ≡ controlBytes (length p / 512) a b

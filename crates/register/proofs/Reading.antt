@@ -6,27 +6,21 @@ use mathlib.Core.Path.{_≡_, refl, sym, _∙_}
 use native.Mathlib.Omega.{arith}
 use lib.Dec.{eqb, leb}
 use lib.ListN.{length, take, drop, length-drop, length-take}
-use lib.Seq.{length-take-le, take-all}
+use lib.Seq.{take-all}
 use borrow.Author.Tests.{leb-true}
 use Rattle.below.proofs.Tests.{and-both}
 use Rattle.block.specs.Bytes.{byteAt, isZero}
 use Rattle.block.specs.Sums.{sumsRight}
 use Rattle.register.specs.Slots.{slotsOf, slotAt, blocksIn, planIn, restOf}
 use Rattle.register.specs.Sound.{controlRight}
+use Rattle.register.proofs.Update.{length-slot}
 
 -- a slot lies whole in the register
 module _ (r : List ℕ) (i : ℕ) (l : i < slotsOf r) where
-  pub slot-fits : i * 16896 + 16896 ≤ length r
-  slot-fits = omega arith
-
-  pub length-slot : length (slotAt r i) ≡ 16896
-  unfolding slotAt
-  length-slot = length-take-le 16896 (drop (i * 16896) r) (rw length-drop (omega (arith, slot-fits)))
-
   -- as the code cuts it out
   pub slot-is : {e : ℕ} → e ≡ i * 16896 + 16896 → (take (e - i * 16896) (drop (i * 16896) r) ≡ slotAt r i) × (length (take (e - i * 16896) (drop (i * 16896) r)) ≡ 16896)
   unfolding slotAt
-  slot-is {e} h = let k : e - i * 16896 ≡ 16896 = omega arith in rw k (refl, length-slot)
+  slot-is {e} h = let k : e - i * 16896 ≡ 16896 = omega arith in rw k (refl, length-slot r i l)
 
 -- the plan in a slot, whole and cut short
 module _ (s : List ℕ) where

@@ -1,7 +1,7 @@
 -- Runs of bytes that are the same, and each way through sign. Assumes nothing.
 use Prim.Native.Nat.{ℕ}
 use mathlib.Core.Bool.{Bool, true, false}
-use mathlib.Core.List.{List, [], _∷_}
+use mathlib.Core.List.{List}
 use mathlib.Core.Path.{_≡_, refl, sym, ap, _∙_}
 use lib.Dec.{eqb}
 use lib.ListN.{length}
@@ -9,7 +9,7 @@ use lib.Seq.{ext-getD}
 use borrow.Author.Tests.{eq-eqb, eqb-true, ne-eqb}
 use Rattle.below.specs.Below.{allBelow}
 use Rattle.below.proofs.Search.{all-at, all-every}
-use Rattle.below.proofs.Tests.{bool-iff, not-true-false, true-not-false, and-both}
+use Rattle.below.proofs.Tests.{bool-iff, not-true-false}
 use Rattle.block.specs.Bytes.{byteAt}
 use Rattle.plan.specs.Fields.{planNumberOf}
 use Rattle.refusal.specs.declared.Refusal.{Refusal}
@@ -19,25 +19,12 @@ use Rattle.verdict.specs.Verdict.{verdictOf}
 use Rattle.register.specs.Slots.{firstSigner, secondSigner, planIn, slotBytes, withSlot, heldAt, isHeld, slotUnder, planUnder}
 use Rattle.register.specs.Sound.{sound}
 use Rattle.register.specs.Steps.{Call.sign, done, same, refusedBy, changed, given, nothingBut}
-
-same-own : (a : List ℕ) → same a a ≡ true
-unfolding same
-same-own [] = refl
-same-own (x ∷ xs) = rw (eq-eqb x x refl, same-own xs)
-
-same-only : (a b : List ℕ) → same a b ≡ true → a ≡ b
-unfolding same
-same-only [] [] e = refl
-same-only [] (y ∷ ys) e = absurd (true-not-false e refl)
-same-only (x ∷ xs) [] e = absurd (true-not-false e refl)
-same-only (x ∷ xs) (y ∷ ys) e =
-    let t = and-both (eqb x y) (same xs ys) e in
-    ap (λ (z : ℕ). z ∷ xs) (eqb-true x y (t .0)) ∙ ap (λ (zs : List ℕ). y ∷ zs) (same-only xs ys (t .1))
+use Rattle.register.proofs.LawDone.{same-refl, same-eq}
 
 module _ (a b : List ℕ) where
   -- bytes of other lengths are not
   pub same-longer : (length a ≡ length b → ⊥) → false ≡ same a b
-  same-longer n = sym (not-true-false (same a b) (λ e. n (ap length (same-only a b e))))
+  same-longer n = sym (not-true-false (same a b) (λ e. n (ap length (same-eq a b e))))
 
   -- else byte is compared with byte
   pub same-bytes : length a ≡ length b → allBelow (length a) (λ i. eqb (byteAt a i) (byteAt b i)) ≡ same a b
@@ -45,8 +32,8 @@ module _ (a b : List ℕ) where
       bool-iff (allBelow (length a) (λ i. eqb (byteAt a i) (byteAt b i))) (same a b)
       (λ e.
       let all : a ≡ b = ext-getD 0 a b n (λ i l. eqb-true _ _ (all-at (λ (i : ℕ). eqb (byteAt a i) (byteAt b i)) (length a) e i l)) in
-      rw all (same-own b))
-      (λ e. let all : a ≡ b = same-only a b e in all-every (λ (i : ℕ). eqb (byteAt a i) (byteAt b i)) (length a) (λ k l. rw all (eq-eqb (byteAt b k) (byteAt b k) refl)))
+      rw all (same-refl b))
+      (λ e. let all : a ≡ b = same-eq a b e in all-every (λ (i : ℕ). eqb (byteAt a i) (byteAt b i)) (length a) (λ k l. rw all (eq-eqb (byteAt b k) (byteAt b k) refl)))
 
 module _ (r : List ℕ) (signer : ℕ) (p : List ℕ) where
   pub sign-unsound : sound r ≡ false → refusedBy r (sign signer p) ≡ alone 30

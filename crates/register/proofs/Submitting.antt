@@ -2,57 +2,25 @@
 use Prim.Native.Nat.{ℕ, _%_, _≤_, _<_}
 use mathlib.Core.Bool.{true, false, not, _||_}
 use mathlib.Core.List.{List}
-use mathlib.Core.Logic.{⊎-elim}
-use mathlib.Core.Path.{_≡_, refl, sym, ap, _∙_}
-use native.Mathlib.Omega.{arith}
+use mathlib.Core.Path.{_≡_, _∙_}
 use lib.Dec.{eqb, ltb}
 use lib.ListN.{length}
-use borrow.Author.Tests.{lt-ltb, le-ltb, ltb-true, ltb-false, ne-eqb}
-use Rattle.below.specs.Below.{anyBelow}
-use Rattle.below.proofs.Search.{any-none, first-facts}
-use Rattle.below.proofs.Tests.{bool-cases, true-not-false, or-neither}
-use Rattle.form.specs.Form.{badLength, formBreaks}
+use borrow.Author.Tests.{lt-ltb, le-ltb, ltb-false}
+use Rattle.below.proofs.Tests.{or-neither}
 use Rattle.plan.specs.Fields.{planNumberOf, revisionOf}
-use Rattle.plan.specs.Periods.{blocksOf}
-use Rattle.refusal.specs.Order.{lowestRule}
 use Rattle.refusal.specs.declared.Refusal.{Refusal}
-use Rattle.refusal.specs.Refusals.{alone, ruleAt}
-use Rattle.verdict.specs.declared.Answer.{Answer}
+use Rattle.refusal.specs.Refusals.{alone}
 use Rattle.verdict.specs.declared.Answer.the-variants.{Accepted, Broken}
-use Rattle.verdict.specs.Verdict.{planLimit, breaks, firstRule, firstBlock, verdictOf, refusalOf}
+use Rattle.verdict.specs.Verdict.{planLimit, verdictOf}
 use Rattle.verdict.proofs.Exactly.{accepted-only}
 use Rattle.register.specs.Slots.{slotsOf, slotAt, planIn, slotBytes, withSlot, heldAt, isHeld, freeAt, slotUnder, planUnder}
 use Rattle.register.specs.Sound.{sound}
-use Rattle.register.specs.Steps.{Call.submit, done, isDone, refusedBy, changed, given, nothingBut}
+use Rattle.register.specs.Steps.{Call.submit, done, refusedBy, changed, given, nothingBut}
 
 module _ (p : List ℕ) where
   -- an accepted plan has room in a slot
   pub accepted-fits : {n : ℕ} → verdictOf p ≡ Accepted n → length p ≤ 16384
   accepted-fits e = ltb-false _ _ (or-neither (eqb (length p) 0 || not (eqb (length p % 512) 0)) (ltb planLimit (length p)) (accepted-only p e .long) .1)
-
-  -- there is no rule 0
-  rule-some : firstRule p < 18 → firstRule p ≡ 0 → ⊥
-  unfolding lowestRule breaks formBreaks
-  rule-some l z =
-      let none : anyBelow (blocksOf p) (breaks p 0) ≡ false = any-none (breaks p 0) (λ b q. refl) in
-      let some : anyBelow (blocksOf p) (breaks p (firstRule p)) ≡ true = first-facts (λ (k : ℕ). anyBelow (blocksOf p) (breaks p k)) 18 .here l in
-      true-not-false (rw z at some) none
-
-  -- so a refusal of the verdict is none of "not refused"
-  pub broken-refused : {x : Refusal} → verdictOf p ≡ Broken x → isDone x ≡ false
-  unfolding verdictOf
-  broken-refused {x} e =
-      ⊎-elim
-      (λ (t : badLength planLimit p ≡ true). let f : Broken (ruleAt 1 0) ≡ Broken x = rw t at e in sym (ap (λ (a : Answer). isDone (refusalOf a)) f))
-      (λ (t : badLength planLimit p ≡ false).
-      let f = rw t at e in
-      ⊎-elim
-      (λ (u : ltb (firstRule p) 18 ≡ true).
-      let g : Broken (ruleAt (firstRule p) (firstBlock p (firstRule p))) ≡ Broken x = rw u at f in
-      sym (ap (λ (a : Answer). isDone (refusalOf a)) g) ∙ ne-eqb _ _ (rule-some (ltb-true _ _ u)))
-      (λ (u : ltb (firstRule p) 18 ≡ false). let g : Accepted (length p) ≡ Broken x = rw u at f in absurd (let z : _≡_ {A = ℕ} 0 1 = cc in omega arith))
-      (bool-cases (ltb (firstRule p) 18)))
-      (bool-cases (badLength planLimit p))
 
 -- the number of a plan, in the register
 pub held-is : (r p : List ℕ) {h number : ℕ} → h ≡ heldAt r number → number ≡ planNumberOf p → h ≡ heldAt r (planNumberOf p)

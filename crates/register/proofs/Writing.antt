@@ -12,7 +12,7 @@ use Rattle.block.proofs.Put.{put-in, length-put, part-put}
 use Rattle.block.proofs.Sealing.{length-sealed}
 use Rattle.layout.specs.Layout.{filled}
 use Rattle.register.specs.Slots.{slotsOf, controlBytes, slotBytes, withSlot}
-use Rattle.register.proofs.Reading.{slot-fits}
+use Rattle.register.proofs.Update.{slot-within}
 
 -- a control block, field by field into a cleared block
 fields-filled : (blocks first second : ℕ) → put (put (put (replicate 512 0) 0 (4 ∷ blocks ∷ [])) 4 (bytesOf 4 first)) 8 (bytesOf 4 second) ≡ filled (4 ∷ blocks ∷ 0 ∷ 0 ∷ bytesOf 4 first ++ bytesOf 4 second)
@@ -78,4 +78,4 @@ length-slot-bytes p first second l =
 pub slot-back : (r p : List ℕ) (i first second : ℕ) → i < slotsOf r → length p ≤ 16384 → {s : List ℕ} → s ≡ slotBytes p first second →
     putMid (i * 16896) (i * 16896 + 16896 - i * 16896) r s ≡ withSlot r i (slotBytes p first second)
 slot-back r p i first second l h {s} e =
-    rw e (part-put r (slotBytes p first second) (i * 16896) (i * 16896 + 16896) (omega arith) (slot-fits r i l) (length-slot-bytes p first second h ∙ omega arith))
+    rw e (part-put r (slotBytes p first second) (i * 16896) (i * 16896 + 16896) (omega arith) (slot-within r i l) (length-slot-bytes p first second h ∙ omega arith))

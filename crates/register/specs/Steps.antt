@@ -62,6 +62,8 @@ same (x ∷ xs) [] = false
 same (x ∷ xs) (y ∷ ys) = eqb x y && same xs ys
 
 -- "Order: submit 30, 1-17, 32, 31; sign 30, 35, 1-17, 33, 34, 37, 36; release 30, 39, 33, 38; drop and state 30, 33."
+-- "30 register not sound"; "33 number not held"; "34 bytes differ from those held"; "35 signer 0"; "36 signer is already the first";
+-- "37 two signers stand"; "38 fewer than two"; "39 output under 16,384 bytes"
 unfoldable pub refusedBy : List ℕ → Call → Refusal
 -- "only 30 if shorter than one slot"
 refusedBy r clear = cond (ltb 0 (slotsOf r)) done (alone 30)

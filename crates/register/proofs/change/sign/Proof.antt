@@ -5,7 +5,8 @@ use borrow.Author.Tests.{not-true, not-false}
 use Rattle.verdict.specs.Verdict.{refusalOf}
 use Rattle.register.specs.Steps.{nothingBut}
 use Rattle.register.proofs.Answering.{call-refused, call-done, is-held, not-held}
-use Rattle.register.proofs.Submitting.{accepted-fits, broken-refused, held-is, under-is}
+use Rattle.register.proofs.LawDone.{broken-number}
+use Rattle.register.proofs.Submitting.{accepted-fits, held-is, under-is}
 use Rattle.register.proofs.Signing.{sign-unsound, sign-nobody, sign-broken, sign-unheld, sign-other, sign-full, sign-twice, sign-passed, sign-given, sign-first, sign-second}
 use Rattle.register.proofs.change.sign.Statement.{statement}
 use Rattle.register.proofs.change.sign.Tie as tie
@@ -51,7 +52,7 @@ same-length-3 c = search needs
 returns-3 : tie.Need-returns-3
 returns-3 c = let a = c .before .before .before .before .before .before .before .before .before .before .args in
     let v = sym (c .before .before .before .verdict .ensures) ∙ c .before .enum-told2 .given .1 in
-    call-refused (sign-broken (a .register .now) (a .signer) (a .plan .now) (sym (c .before .before .before .before .before .before .is-sound .ensures) ∙ not-false _ (c .before .before .before .before .before .if1 .left)) (c .before .before .before .before .if2 .left) v) (broken-refused (a .plan .now) v) (ap nothingBut (c .refusal-of .ensures ∙ ap refusalOf (c .before .enum-told2 .given .1)))
+    call-refused (sign-broken (a .register .now) (a .signer) (a .plan .now) (sym (c .before .before .before .before .before .before .is-sound .ensures) ∙ not-false _ (c .before .before .before .before .before .if1 .left)) (c .before .before .before .before .if2 .left) v) (broken-number (a .plan .now) _ v) (ap nothingBut (c .refusal-of .ensures ∙ ap refusalOf (c .before .enum-told2 .given .1)))
 
 plan-number-of-requires : tie.Need-plan-number-of-requires
 plan-number-of-requires c κs = search needs

@@ -5,7 +5,8 @@ use borrow.Author.Tests.{not-true, not-false}
 use Rattle.verdict.specs.Verdict.{refusalOf}
 use Rattle.register.specs.Steps.{nothingBut}
 use Rattle.register.proofs.Answering.{call-refused, call-done, is-held, not-held}
-use Rattle.register.proofs.Submitting.{accepted-fits, broken-refused, held-is, under-is, under-revision, submit-unsound, submit-broken, submit-stale, submit-full, submit-again, submit-new, submit-given, submit-same, submit-free}
+use Rattle.register.proofs.LawDone.{broken-number}
+use Rattle.register.proofs.Submitting.{accepted-fits, held-is, under-is, under-revision, submit-unsound, submit-broken, submit-stale, submit-full, submit-again, submit-new, submit-given, submit-same, submit-free}
 use Rattle.register.proofs.change.submit.Statement.{statement}
 use Rattle.register.proofs.change.submit.Tie as tie
 
@@ -40,7 +41,7 @@ same-length-2 c = search needs
 returns-2 : tie.Need-returns-2
 returns-2 c = let a = c .before .before .before .before .before .before .before .before .before .args in
     let v = sym (c .before .before .before .verdict .ensures) ∙ c .before .enum-told2 .given .1 in
-    call-refused (submit-broken (a .register .now) (a .plan .now) (sym (c .before .before .before .before .before .is-sound .ensures) ∙ not-false _ (c .before .before .before .before .if1 .left)) v) (broken-refused (a .plan .now) v) (ap nothingBut (c .refusal-of .ensures ∙ ap refusalOf (c .before .enum-told2 .given .1)))
+    call-refused (submit-broken (a .register .now) (a .plan .now) (sym (c .before .before .before .before .before .is-sound .ensures) ∙ not-false _ (c .before .before .before .before .if1 .left)) v) (broken-number (a .plan .now) _ v) (ap nothingBut (c .refusal-of .ensures ∙ ap refusalOf (c .before .enum-told2 .given .1)))
 
 slots-of-requires : tie.Need-slots-of-requires
 slots-of-requires c κs = search needs
