@@ -78,3 +78,24 @@ module _ (f g : ℕ → ℕ) where
   unfolding sumBelow
   sum-same zero h = refl
   sum-same (suc n) h = rw (sum-same n (λ k l. h k (omega arith)), h n (omega arith))
+
+  -- the sum of two terms each is the two sums
+  pub sum-both : (n : ℕ) → sumBelow n (λ k. f k + g k) ≡ sumBelow n f + sumBelow n g
+  unfolding sumBelow
+  sum-both zero = refl
+  sum-both (suc n) = rw (sum-both n) (omega arith)
+
+-- m terms and then n more
+pub sum-plus : (f : ℕ → ℕ) (m n : ℕ) → sumBelow (m + n) f ≡ sumBelow m f + sumBelow n (λ k. f (m + k))
+unfolding sumBelow
+sum-plus f m zero = let e : m + 0 ≡ m = omega arith in rw e (omega arith)
+sum-plus f m (suc n) =
+    let more : sumBelow (suc (m + n)) f ≡ sumBelow (m + n) f + f (m + n) = refl in
+    let e : m + suc n ≡ suc (m + n) = omega arith in
+    rw e (omega (arith, sum-plus f m n, more))
+
+-- n times one number
+pub sum-each : (c n : ℕ) → sumBelow n (λ k. c) ≡ n * c
+unfolding sumBelow
+sum-each c zero = omega arith
+sum-each c (suc n) = omega (arith, sum-each c n, suc-mul n c)

@@ -2,7 +2,7 @@
 pub mod Numbers
 pub mod Put
 pub mod Sealing
-pub mod Joining
+pub mod Lanes
 pub mod Zero
 pub mod Pieces
 pub mod Paper

@@ -22,11 +22,6 @@ unfoldable pub summed : Sums → List ℕ → ℕ → ℕ → Sums
 summed s b i zero = s
 summed s b i (suc n) = summed (grown s (wordAt b i)) b (i + 4) n
 
--- the sums that were s, after n words whose own sums, from 0 on, are t: what the code goes by; proofs/Joining.antt
-unfoldable pub joined : ℕ → Sums → Sums → Sums
-joined n s t =
-    record { first = (s .first + t .first) % 2 ^ 32; second = (s .second + n * s .first + t .second) % 2 ^ 32 }
-
 -- "Words 0 to 125 (32 bits each) are summed: both sums start at 0"
 unfoldable pub sumsOf : List ℕ → Sums
 sumsOf b = summed (record { first = 0; second = 0 }) b 0 126

@@ -4,9 +4,9 @@ use crate::Sums;
 use crate::read::word_in;
 use crate::write::put_word;
 ghost use mathlib.Core.Path.{_≡_};
-ghost use Prim.Native.Nat.{_+_, _≤_};
+ghost use Prim.Native.Nat.{_*_, _%_, _^_, _≤_};
 ghost use lib.ListN.{length};
-ghost use Rattle.block.specs.Sums.{grown, summed, joined, sumsOf, sumsRight, sealed};
+ghost use Rattle.block.specs.Sums.{grown, sumsOf, sumsRight, sealed};
 
 // The sums with a word more.
 fn grow(s: Sums, w: u32) -> Sums
@@ -17,65 +17,45 @@ fn grow(s: Sums, w: u32) -> Sums
     Sums { first, second }
 }
 
-// The sums of the six words from `at` on, by themselves: one turn's words need not wait for those of the turns before.
-fn sums_of_six(b: &[u8], at: usize) -> Sums
-    requires { ⌜ at + 24 ≤ length (now b) ⌝ }
-    ensures { λ r. ⌜ r ≡ summed (record { first = 0; second = 0 }) (now (b .entry)) at 6 ⌝ }
+// Nine times a number.
+fn nine_times(x: u32) -> u32
+    ensures { λ r. ⌜ r ≡ 9 * x % 2 ^ 32 ⌝ }
 {
-    let s = grow(
-        Sums {
-            first: 0,
-            second: 0,
-        },
-        word_in(b, at),
-    );
-    let at = at + 4;
-    let s = grow(s, word_in(b, at));
-    let at = at + 4;
-    let s = grow(s, word_in(b, at));
-    let at = at + 4;
-    let s = grow(s, word_in(b, at));
-    let at = at + 4;
-    let s = grow(s, word_in(b, at));
-    let at = at + 4;
-    grow(s, word_in(b, at))
+    let twice = std::num::wrapping_add_u32(x, x);
+    let four_times = std::num::wrapping_add_u32(twice, twice);
+    let eight_times = std::num::wrapping_add_u32(four_times, four_times);
+    std::num::wrapping_add_u32(eight_times, x)
 }
 
-// The sums s, after six words whose own sums are t: each of those counts the first of s once more.
-fn join_six(s: Sums, t: Sums) -> Sums
-    ensures { λ r. ⌜ r ≡ joined 6 s t ⌝ }
-{
-    let twice = std::num::wrapping_add_u32(s.first, s.first);
-    let thrice = std::num::wrapping_add_u32(twice, s.first);
-    let six_times = std::num::wrapping_add_u32(thrice, thrice);
-    let second = std::num::wrapping_add_u32(s.second, six_times);
-    Sums {
-        first: std::num::wrapping_add_u32(s.first, t.first),
-        second: std::num::wrapping_add_u32(second, t.second),
-    }
-}
-
-// The sums with the six words from `at` on.
-fn grow_six(s: Sums, b: &[u8], at: usize) -> Sums
-    requires { ⌜ at + 24 ≤ length (now b) ⌝ }
-    ensures { λ r. ⌜ r ≡ summed s (now (b .entry)) at 6 ⌝ }
-{
-    join_six(s, sums_of_six(b, at))
-}
-
-// The sums of words 0 to 125: 21 times six.
+// The sums of words 0 to 125, nine words side by side: lane k has two running sums of its own over words k, 9 + k, 18 + k, ..,
+// and at the end the lanes are joined in order. Lanes do not wait for each other, so that the compiled turn is wide; in a
+// function of its own it is not.
 fn sums_of(b: &[u8]) -> Sums
     requires { ⌜ 504 ≤ length (now b) ⌝ }
     ensures { λ r. ⌜ r ≡ sumsOf (now (b .entry)) ⌝ }
 {
+    let mut first = [0u32; 9];
+    let mut second = [0u32; 9];
+    for i in 0..14usize {
+        for k in 0..9usize {
+            let sum = first[k];
+            second[k] = std::num::wrapping_add_u32(second[k], sum);
+            first[k] = std::num::wrapping_add_u32(sum, word_in(b, i * 36 + k * 4));
+        }
+    }
     let mut s = Sums {
         first: 0,
         second: 0,
     };
-    for i in 0..21usize {
-        s = grow_six(s, b, i * 24);
+    let mut t: u32 = 0;
+    for k in 0..9usize {
+        s = grow(s, first[k]);
+        t = std::num::wrapping_add_u32(t, second[k]);
     }
-    s
+    Sums {
+        first: s.first,
+        second: std::num::wrapping_add_u32(s.second, nine_times(t)),
+    }
 }
 
 // Is this a whole block, and are its sums right?

@@ -1,4 +1,5 @@
 -- What rules 1 to 4 give the later rules.
 pub mod Laws
+pub mod Opened
 pub mod Formed
 pub mod Ranged

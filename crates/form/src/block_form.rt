@@ -1,9 +1,8 @@
 // Rule 4: the fields and the zero bytes of one whole block.
 use block::is_zero;
+use block::long_at;
 use day::is_no_span;
-use plan::Dose;
 use plan::count_of;
-use plan::dose_of;
 use plan::end_of;
 use plan::first_of;
 use plan::kind_of;
@@ -15,7 +14,7 @@ ghost use lib.Dec.{eqb};
 ghost use lib.ListN.{length};
 ghost use Rattle.below.specs.Below.{anyBelow};
 ghost use Rattle.plan.specs.Fields.{recordAt};
-ghost use Rattle.form.specs.Form.{daysOut, notZero, fieldOut, recordOut, dosesOut, headOut, periodOut, continuationOut, blockOut};
+ghost use Rattle.form.specs.Form.{daysOut, notZero, recordOut, dosesOut, headOut, periodOut, continuationOut, blockOut};
 
 // Is one of the bytes from a up to e not zero?
 fn not_zero(r: &[u8], a: usize, e: usize) -> bool
@@ -32,27 +31,25 @@ fn days_out(r: &[u8]) -> bool
 }
 
 // The largest minute that goes with a time kind.
-fn last_minute(kind: u8) -> u16
+fn last_minute(kind: u64) -> u64
     ensures { λ m. ⌜ m ≡ cond (eqb kind 5) 1439 0 ⌝ }
 {
     if kind == 5 { 1439 } else { 0 }
 }
 
-fn field_out(d: Dose) -> bool
-    ensures { λ t. ⌜ t ≡ fieldOut d ⌝ }
-{
-    (5 < d.kind)
-        | (1 < d.mark)
-        | (last_minute(d.kind) < d.minute)
-        | (9999999999 < d.low)
-        | (9999999999 < d.high)
-}
-
+// The first eight bytes are read as one number. Bytes 6 and 7 stand behind the minute in it: where they are not zero, the two
+// together pass every minute.
 fn record_out(record: &[u8]) -> bool
     requires { ⌜ length (now «record») ≡ 24 ⌝ }
     ensures { λ t. ⌜ t ≡ recordOut (now («record» .entry)) ⌝ }
 {
-    field_out(dose_of(record)) | not_zero(record, 6, 8)
+    let w = long_at(record, 0);
+    let kind = w / 65536 % 256;
+    (5 < kind)
+        | (1 < w / 16777216 % 256)
+        | (last_minute(kind) < w / 4294967296)
+        | (9999999999 < long_at(record, 8))
+        | (9999999999 < long_at(record, 16))
 }
 
 // Dose record i of a block, handed on as a part of it.

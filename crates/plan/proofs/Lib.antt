@@ -1,2 +1,3 @@
 -- The laws that other crates' proofs cite.
 pub mod Parts
+pub mod Opened

@@ -76,15 +76,16 @@ pub fn vka_of(r: &[u8]) -> u8
     byte_at(r, 20)
 }
 
-// The dose that a record holds.
+// The dose that a record holds. Its first eight bytes are read as one number.
 pub fn dose_of(record: &[u8]) -> Dose
     ensures { λ d. ⌜ d ≡ doseOf (now («record» .entry)) ⌝ }
 {
+    let w = long_at(record, 0);
     Dose {
-        day: half_at(record, 0),
-        kind: byte_at(record, 2),
-        mark: byte_at(record, 3),
-        minute: half_at(record, 4),
+        day: (w % 65536) as u16,
+        kind: (w / 65536 % 256) as u8,
+        mark: (w / 16777216 % 256) as u8,
+        minute: (w / 4294967296 % 65536) as u16,
         low: long_at(record, 8),
         high: long_at(record, 16),
     }
