@@ -8,7 +8,7 @@ use native.Mathlib.Nat.{eq-or-lt-of-le}
 use native.Mathlib.Omega.{arith}
 use lib.Dec.{ltb}
 use borrow.Author.Tests.{ne-eqb}
-use Rattle.below.specs.Below.{anyBelow}
+use Rattle.below.specs.Below.{anyBelow, countBelow}
 use Rattle.below.proofs.Search.{first-is, first-none}
 use Rattle.plan.specs.Fields.{isMarked}
 use Rattle.plan.specs.Periods.{blockAt, dosesOf, doseIn, hasUnmarked, hasMarked, classBy, classOf}
@@ -34,14 +34,14 @@ module _ (p : List ℕ) (b : ℕ) where
       rw (first-is breaks {n = 10} {i = k - 5} (omega arith) (λ i m. none (5 + i) (omega arith) (omega arith)) (rw e hit)) (sym e)
 
   -- no rule is
-  none-is : NotYet p b 15 → 15 ≡ ruleOf p b
+  pub none-is : NotYet p b 15 → 15 ≡ ruleOf p b
   unfolding ruleOf breaks
   none-is none = rw (first-none breaks 10 (λ i m. none (5 + i) (omega arith) (omega arith)))
 
   from-5 : NotYet p b 5
   from-5 i a l = absurd (omega arith)
 
-  one-on : (k : ℕ) → NotYet p b k → periodBreaks k p b ≡ false → NotYet p b (k + 1)
+  pub one-on : (k : ℕ) → NotYet p b k → periodBreaks k p b ≡ false → NotYet p b (k + 1)
   one-on k none e i a l =
       ⊎-elim
       (λ (q : i ≡ k). rw q e)
@@ -65,13 +65,17 @@ module _ (p : List ℕ) (b : ℕ) where
     unfolding periodBreaks
     to-7 e = one-on 6 to-6 e
 
+  -- the class by how many doses are marked
+  pub class-counted : {n marked : ℕ} → n ≡ dosesOf p b → marked ≡ countBelow n (λ i. isMarked (doseIn p b i)) → classBy (ltb marked n) (ltb 0 marked) ≡ classOf p b
+  unfolding classOf hasUnmarked hasMarked
+  class-counted {n} counts e =
+      let q : ℕ → Bool = λ i. isMarked (doseIn p b i) in
+      rw (← counts, any-not-count q n, any-count q n, e)
+
   -- the pass has come to the last dose
   pub class-is : {n : ℕ} {s : Walk} → n ≡ dosesOf p b → Passed p b n s → classBy (ltb (s .marked) n) (ltb 0 (s .marked)) ≡ classOf p b
-  unfolding classOf hasUnmarked hasMarked
   class-is {n} {s} counts done =
-      let marked : ℕ → Bool = λ i. isMarked (doseIn p b i) in
-      let w : Walked (doseIn p b) n s = rw (done .kept) (walked (doseIn p b) n) in
-      rw (← counts, any-not-count marked n, any-count marked n, w .marked)
+      let w : Walked (doseIn p b) n s = rw (done .kept) (walked (doseIn p b) n) in class-counted counts (w .marked)
 
   -- what rule 10's search counts on, and where it need not be made
   pub rises : {n : ℕ} {s : Walk} → Passed p b n s → 7 < s .rule → Rising (doseIn p b) n

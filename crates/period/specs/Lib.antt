@@ -3,4 +3,5 @@ pub mod Doses
 pub mod Period
 pub mod Turn
 pub mod Twice
+pub mod Quick
 pub mod Finish

@@ -2,6 +2,7 @@
 // the bytes.
 mod finish;
 mod header;
+mod quick;
 mod turn;
 mod twice;
 mod walk;
@@ -12,12 +13,15 @@ use header::is_outside;
 use header::limit_of;
 use plan::block_of;
 use plan::class_by;
+use plan::class_of;
 use plan::doses_of;
+use quick::glance;
 use walk::walk_doses;
 ghost use mathlib.Core.Path.{_≡_};
 ghost use Prim.Native.Nat.{_≤_, _<_};
-ghost use Rattle.plan.specs.Periods.{classOf};
-ghost use Rattle.period.specs.Period.{ruleOf};
+ghost use Rattle.plan.specs.Periods.{dosesOf, blockAt, classOf};
+ghost use Rattle.period.specs.Period.{limitOf, ruleOf};
+ghost use Rattle.period.specs.Finish.{NotYet};
 
 // What was found of a period: its lowest broken rule from 5 to 14, or 15, and its class.
 pub struct Judged {
@@ -25,22 +29,42 @@ pub struct Judged {
     pub class: u8,
 }
 
+// What the exact pass finds of a period that keeps rules 5 and 6.
+fn judge_exactly(plan: &[u8], b: u8, n: u16, limit: u32) -> Judged
+    requires { ⌜ (n ≡ dosesOf (now plan) b) × (n ≤ 1515) × (limit ≡ limitOf (blockAt (now plan) b)) × NotYet (now plan) b 7 ⌝ }
+    ensures { λ r. ⌜ (r .rule ≡ ruleOf (now (plan .entry)) b) × (r .class ≡ classOf (now (plan .entry)) b) × (r .rule ≤ 15) × (r .class < 4) ⌝ }
+{
+    let s = walk_doses(plan, b, n);
+    Judged {
+        rule: rule_from_7(plan, b, s, n, limit),
+        class: class_by(s.marked < n, 0 < s.marked),
+    }
+}
+
 // The lowest of rules 5 to 14 that the period at block b breaks, 15 where it breaks none; and its class.
 pub fn judge_period(plan: &[u8], b: u8) -> Judged
     ensures { λ r. ⌜ (r .rule ≡ ruleOf (now (plan .entry)) b) × (r .class ≡ classOf (now (plan .entry)) b) × (r .rule ≤ 15) × (r .class < 4) ⌝ }
 {
-    let n = doses_of(plan, b);
-    let s = walk_doses(plan, b, n);
-    let class = class_by(s.marked < n, 0 < s.marked);
     if is_outside(plan, b) {
-        return Judged { rule: 5, class };
+        return Judged {
+            rule: 5,
+            class: class_of(plan, b),
+        };
     }
     if is_early(plan, b) {
-        return Judged { rule: 6, class };
+        return Judged {
+            rule: 6,
+            class: class_of(plan, b),
+        };
     }
+    let n = doses_of(plan, b);
     let limit = limit_of(block_of(plan, b as u16));
-    Judged {
-        rule: rule_from_7(plan, b, s, n, limit),
-        class,
+    let seen = glance(plan, b, n, limit);
+    if seen.fine {
+        return Judged {
+            rule: 15,
+            class: class_by(seen.marked < (n as u64), 0 < seen.marked),
+        };
     }
+    judge_exactly(plan, b, n, limit)
 }

@@ -37,7 +37,7 @@ fn pick16(c: bool, a: u16, b: u16) -> u16
     if c { a } else { b }
 }
 
-fn pick64(c: bool, a: u64, b: u64) -> u64
+pub(crate) fn pick64(c: bool, a: u64, b: u64) -> u64
     ensures { λ r. ⌜ r ≡ cond c a b ⌝ }
 {
     if c { a } else { b }

@@ -101,7 +101,7 @@ fn next_rule(plan: &[u8], b: u8, s: Walk, d: Dose, j: u16) -> u8
 }
 
 // Dose i of a block. Of a whole block it is read with no test that changes with i.
-fn dose_near(r: &[u8], i: u8) -> Dose
+pub(crate) fn dose_near(r: &[u8], i: u8) -> Dose
     requires { ⌜ i < 20 ⌝ }
     ensures { λ d. ⌜ d ≡ doseOf (recordAt (now (r .entry)) i) ⌝ }
 {
@@ -130,7 +130,7 @@ fn walk_block(plan: &[u8], b: u8, q: u16, m: u16, s0: Walk) -> Walk
     s
 }
 
-fn least20(n: u16) -> u16
+pub(crate) fn least20(n: u16) -> u16
     ensures { λ r. ⌜ r ≡ min n 20 ⌝ }
 {
     if n < 20 { n } else { 20 }

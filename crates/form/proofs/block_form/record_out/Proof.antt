@@ -18,7 +18,7 @@ long-at-requires-3 : tie.Need-long-at-requires-3
 long-at-requires-3 c κs = search needs
 
 returns : tie.Need-returns
-returns c =     let s = c .before .before .before .before .before .args .«record» .now in
+returns c = let s = c .before .before .before .before .before .args .«record» .now in
     let b : AreBytes s = λ i. omega (arith, c .before .before .before .before .shared-slice-known .given i) in
     rw (c .long-at3 .ensures, c .before .long-at2 .ensures, c .before .before .last-minute .ensures, c .before .before .before .long-at .ensures) (record-opened s b (c .before .before .before .before .before .pre))
 
