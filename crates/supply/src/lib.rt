@@ -3,6 +3,9 @@ mod entry;
 mod judge;
 mod lent;
 mod need;
+mod next;
+mod today;
+mod until;
 mod walk;
 
 pub use entry::supply_packed;

@@ -1,42 +1,20 @@
 // The walk over the days, and the stop day.
 use crate::Lasting;
-use crate::need::need_on;
+use crate::next::needs_of;
+use crate::next::next_day;
+use crate::today::is_supplied;
+use crate::today::on_day;
 use pause::Pause;
-use pause::paused_today;
 use plan::block_of;
-use plan::class_of;
-use plan::is_period;
 use plan::last_of;
 ghost use mathlib.Core.Path.{_≡_};
-ghost use Prim.Native.Nat.{_+_, _-_, _≤_, _<_, min, max};
+ghost use Prim.Native.Nat.{_+_, _-_, _≤_, _<_, max};
 ghost use mathlib.Core.Bool.{cond};
 ghost use lib.Dec.{eqb};
 ghost use Rattle.day.specs.Days.{openMark};
-ghost use Rattle.supply.specs.Need.{needOn, isSupplied, stopDay, hasStop};
+ghost use Rattle.supply.specs.Need.{needOn, stopDay, hasStop};
 ghost use Rattle.supply.specs.Supply.{lastingOf};
 ghost use Rattle.supply.specs.Capped.{cap, Orderly};
-
-// What a day needs, with the pauses.
-fn need_today(plan: &[u8], at: [Pause; 32], choice: u32, day: u32) -> u64
-    requires { ⌜ Orderly (now plan) ⌝ }
-    ensures { λ r. ⌜ r ≡ min cap (needOn choice (now (plan .entry)) at day) ⌝ }
-{
-    if paused_today(at, day) {
-        return 0;
-    }
-    need_on(plan, day, choice)
-}
-
-// Is the period at block b fixed or mixed?
-fn is_supplied(plan: &[u8], b: u8) -> bool
-    ensures { λ r. ⌜ r ≡ isSupplied (now (plan .entry)) b ⌝ }
-{
-    if is_period(plan, b) {
-        let class = class_of(plan, b);
-        return (class == 1) | (class == 3);
-    }
-    false
-}
 
 // The stop day, if there is one.
 pub(crate) struct Stop {
@@ -101,8 +79,10 @@ pub(crate) fn lasting(
 {
     let mut n: u32 = 0;
     let mut rest = pack;
+    let mut t = on_day(plan, at, choice, start);
+    let mut needs = needs_of(plan, choice, t);
     while n <= stop - start {
-        let need = need_today(plan, at, choice, start + n);
+        let need = t.need;
         if rest < need {
             return Lasting {
                 days: n,
@@ -113,6 +93,13 @@ pub(crate) fn lasting(
         }
         rest -= need;
         n += 1;
+        if t.until < start + n {
+            t = on_day(plan, at, choice, start + n);
+            let list = needs_of(plan, choice, t);
+            needs = list;
+        } else {
+            t = next_day(plan, choice, start + n, t, &needs);
+        }
     }
     Lasting {
         days: n,

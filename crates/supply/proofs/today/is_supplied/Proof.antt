@@ -1,7 +1,7 @@
 use mathlib.Core.Path.{sym, _∙_}
 use borrow.Author.Needs.{needs}
-use Rattle.supply.proofs.walk.is_supplied.Statement.{statement}
-use Rattle.supply.proofs.walk.is_supplied.Tie as tie
+use Rattle.supply.proofs.today.is_supplied.Statement.{statement}
+use Rattle.supply.proofs.today.is_supplied.Tie as tie
 
 is-period-requires : tie.Need-is-period-requires
 is-period-requires c κs = search needs
