@@ -33,12 +33,12 @@ answers-zero : (r : List ℕ) (c : Call) → isDone (refusedBy r c) ≡ true →
 answers-zero r c e = eqb-true _ _ (answered-done r c ∙ e)
 
 -- and leaves a sound register of bytes
-good-next : (r : List ℕ) (c : Call) → CanCall c → Good r → Good (after r c)
+pub good-next : (r : List ℕ) (c : Call) → CanCall c → Good r → Good (after r c)
 good-next r c can g =
     record { is-sound = after-sound r c (g .bytes) can (g .is-sound); bytes = after-bytes r c (g .bytes) can }
 
 -- a cleared register has a free slot
-cleared-free : (r : List ℕ) → 0 < slotsOf r → ltb (freeAt (changed r clear)) (slotsOf (changed r clear)) ≡ true
+pub cleared-free : (r : List ℕ) → 0 < slotsOf r → ltb (freeAt (changed r clear)) (slotsOf (changed r clear)) ≡ true
 unfolding freeAt
 cleared-free r l =
     let t = changed r clear in
@@ -52,13 +52,13 @@ cleared-free r l =
 
 -- the first plan under its number
 module _ (r p : List ℕ) (g : Good r) (e : isAccepted (verdictOf p) ≡ true) where
-  submit-new : found r (planNumberOf p) ≡ none → ltb (freeAt r) (slotsOf r) ≡ true → isDone (refusedBy r (submit p)) ≡ true
+  pub submit-new : found r (planNumberOf p) ≡ none → ltb (freeAt r) (slotsOf r) ≡ true → isDone (refusedBy r (submit p)) ≡ true
   submit-new f room =
       let h = none-held r (planNumberOf p) f in
       submit-done r p (record { sound-was = g .is-sound; accepted = e; newer = rw h; room = rw (h, room) })
 
   -- a later one
-  submit-later : (q : List ℕ) (a b : ℕ) → isAccepted (verdictOf q) ≡ true → found r (planNumberOf p) ≡ some (slotBytes q a b) → revisionOf q < revisionOf p →
+  pub submit-later : (q : List ℕ) (a b : ℕ) → isAccepted (verdictOf q) ≡ true → found r (planNumberOf p) ≡ some (slotBytes q a b) → revisionOf q < revisionOf p →
       isDone (refusedBy r (submit p)) ≡ true
   submit-later q a b x f l =
       let h = some-held r (planNumberOf p) (slotBytes q a b) f in
@@ -66,14 +66,14 @@ module _ (r p : List ℕ) (g : Good r) (e : isAccepted (verdictOf p) ≡ true) w
       submit-done r p (record { sound-was = g .is-sound; accepted = e; newer = rw (h .0, plan, lt-ltb _ _ l); room = rw (h .0) })
 
   -- either way it stands there with no signer
-  submit-stands : isDone (refusedBy r (submit p)) ≡ true → found (after r (submit p)) (planNumberOf p) ≡ some (slotBytes p 0 0)
+  pub submit-stands : isDone (refusedBy r (submit p)) ≡ true → found (after r (submit p)) (planNumberOf p) ≡ some (slotBytes p 0 0)
   submit-stands d =
       let n = planNumberOf p in
       rw (after-done r (submit p) d) (submit-found r p (submitted r p d) n ∙ rw (eq-eqb n n refl))
 
   -- its first signer
   module _ (signer : ℕ) (somebody : signer ≡ 0 → ⊥) (fits : signer < 4294967296) (f : found r (planNumberOf p) ≡ some (slotBytes p 0 0)) where
-    sign-first : isDone (refusedBy r (sign signer p)) ≡ true
+    pub sign-first : isDone (refusedBy r (sign signer p)) ≡ true
     sign-first =
         let h = some-held r (planNumberOf p) (slotBytes p 0 0) f in
         let plan : planIn (slotUnder r (planNumberOf p)) ≡ p = ap planIn (h .1) ∙ plan-back p 0 0 (accepted-whole p e) in
@@ -90,7 +90,7 @@ module _ (r p : List ℕ) (g : Good r) (e : isAccepted (verdictOf p) ≡ true) w
           not-first = rw first (ne-eqb 0 signer (λ z. somebody (sym z)));
         })
 
-    sign-stands : found (after r (sign signer p)) (planNumberOf p) ≡ some (slotBytes p signer 0)
+    pub sign-stands : found (after r (sign signer p)) (planNumberOf p) ≡ some (slotBytes p signer 0)
     sign-stands =
         let n = planNumberOf p in
         let h = some-held r n (slotBytes p 0 0) f in
@@ -108,11 +108,11 @@ one-signer r g n a p room f l =
     rw (release-few r n room (g .is-sound) l (h .0) (eq-eqb _ _ second))
 
 -- calls in a row, the first of them not refused
-zero-then : (r : List ℕ) (c : Call) (cs : List Call) {ns : List ℕ} → isDone (refusedBy r c) ≡ true → numbersOf (after r c) cs ≡ ns → numbersOf r (c ∷ cs) ≡ 0 ∷ ns
+pub zero-then : (r : List ℕ) (c : Call) (cs : List Call) {ns : List ℕ} → isDone (refusedBy r c) ≡ true → numbersOf (after r c) cs ≡ ns → numbersOf r (c ∷ cs) ≡ 0 ∷ ns
 unfolding numbersOf
 zero-then r c cs e f = rw (answers-zero r c e, f)
 
-number-last : (r : List ℕ) (c : Call) (k : ℕ) → answered r c .refusal .number ≡ k → numbersOf r (c ∷ []) ≡ k ∷ []
+pub number-last : (r : List ℕ) (c : Call) (k : ℕ) → answered r c .refusal .number ≡ k → numbersOf r (c ∷ []) ≡ k ∷ []
 unfolding numbersOf
 number-last r c k e = rw e
 
