@@ -1,12 +1,16 @@
 /* Chivetassel for C: dosage plans judged by the rules of document 01. The calls are in the crate `screen`:
    `rt staticlib screen` proves it and writes target/staticlib/libscreen.a, for x86-64, which needs nothing but the C library.
 
-   Every call takes every input: nothing need be checked before. A plan is its bytes and their number; with a length of 0
-   the pointer may be NULL. Calls keep no state and may be made from several threads at once.
+   Every call takes every input: nothing need be checked before. Bytes are passed as a pointer and their number; with a
+   number of 0 the pointer may be NULL. Buffers that one call is given must not overlap, and need not be aligned. Calls keep
+   no state: they may be made from several threads at once, as long as none writes bytes that another uses. This header
+   is C99 and C++.
 
    A call returns number + 256 * place. The number is 0 where nothing is refused, else that of the first refusal in the
-   order set by document 01; the place is the number of a block, or 255 where there is none. So CHIVETASSEL_DONE, which is
-   0 at place 255, means that nothing is refused. */
+   order set by document 01; the place is the block of the plan that breaks a rule, counted from 0, or 255 where there is
+   none. So what means that nothing is refused is not 0 but CHIVETASSEL_DONE, 65,280: number 0 at place 255.
+
+   A refused call writes nothing, nowhere. All numbers in bytes stand least byte first. */
 #ifndef CHIVETASSEL_H
 #define CHIVETASSEL_H
 
@@ -26,22 +30,59 @@ extern "C" {
 #define CHIVETASSEL_LAST_DAY 73048u
 #define CHIVETASSEL_OPEN 4294967295u
 
-/* The bytes that each of split's two buffers must have. */
-#define CHIVETASSEL_PART_ROOM 32768u
+/* Sizes in bytes. */
+#define CHIVETASSEL_BLOCK 512u          /* a plan is a head and up to 31 further blocks */
+#define CHIVETASSEL_PLAN_ROOM 16384u    /* the longest plan, and the least room for release */
+#define CHIVETASSEL_PART_ROOM 32768u    /* the least room for each part of split */
+#define CHIVETASSEL_PAUSE 8u            /* one pause */
+#define CHIVETASSEL_SLOT 16896u         /* one slot of an approval register */
 
-/* Refusals of the calls below, beside the rules 1 to 17 of the verdict. */
-#define CHIVETASSEL_PACK_TOO_LARGE 20u      /* above 1,000,000,000,000 */
+/* The least bytes of `out`, call by call. */
+#define CHIVETASSEL_SUPPLY_OUT 32u      /* days covered, last covered day, rest, reason */
+#define CHIVETASSEL_SPLIT_OUT 16u       /* length of the fixed part, length of the need part */
+#define CHIVETASSEL_SHOW_DAY_OUT 16u    /* where in the part the blocks begin, how many bytes they are */
+#define CHIVETASSEL_DAY_SUMS_OUT 32u    /* unmarked low, unmarked upper, marked low, marked upper */
+#define CHIVETASSEL_RELEASE_OUT 8u      /* length of the plan */
+#define CHIVETASSEL_STATE_OUT 16u       /* revision, how many have signed */
+
+/* Limits. */
+#define CHIVETASSEL_PAUSES_MOST 32u
+#define CHIVETASSEL_PACK_MOST 1000000000000ull
+#define CHIVETASSEL_SLOTS_MOST 64u
+
+/* The rules of the verdict. The place is the very block in 2 to 4, the period's first block in 5 to 14, the later period's in
+   16, and 255 in 1, 15 and 17. */
+#define CHIVETASSEL_RULE_LENGTH 1u          /* the length is 0, no multiple of 512, or above 16,384 */
+#define CHIVETASSEL_RULE_SUMS 2u            /* a block's sums are wrong */
+#define CHIVETASSEL_RULE_BLOCKS 3u          /* no head, a wrong count, or neither a period nor a rightly placed continuation */
+#define CHIVETASSEL_RULE_FIELDS 4u          /* a field out of range, a zero byte that isn't, or a first day after its end */
+#define CHIVETASSEL_RULE_TREATMENT 5u       /* a period outside of the treatment, or open where that has an end */
+#define CHIVETASSEL_RULE_ORDER 6u           /* a period's first day is before that of the period ahead of it */
+#define CHIVETASSEL_RULE_DAY_NUMBERS 7u     /* day numbers fall, or pass the interval or the period's length */
+#define CHIVETASSEL_RULE_ANY_DAY 8u         /* day number 0 on an unmarked dose, or beside another day number */
+#define CHIVETASSEL_RULE_TOO_MANY_DOSES 9u  /* more than 99 doses with one day number */
+#define CHIVETASSEL_RULE_SAME_TIME 10u      /* morning, noon, evening, night or a clock minute twice in one day */
+#define CHIVETASSEL_RULE_OTHER_AMOUNTS 11u  /* two untimed doses in one day, need marks alike but amounts not */
+#define CHIVETASSEL_RULE_TIMED_AND_NOT 12u  /* a period has untimed doses and morning, noon, evening or night */
+#define CHIVETASSEL_RULE_HIGH_AMOUNT 13u    /* high isn't 0 and not high > low > 0 */
+#define CHIVETASSEL_RULE_TOO_MUCH 14u       /* unmarked upper amounts of 100,000,000,000 or more for each day of the interval or the period */
+#define CHIVETASSEL_RULE_NO_DOSES 15u       /* no period at all, or only empty ones in a plan that isn't VKA */
+#define CHIVETASSEL_RULE_SHARED_DAY 16u     /* two periods share a day, unless one is need and the other fixed or empty */
+#define CHIVETASSEL_RULE_HOLE 17u           /* a day in no period, or one that the fixed or the need list leaves out */
+
+/* What the other calls refuse beside those. None has a place. */
+#define CHIVETASSEL_PACK_TOO_LARGE 20u      /* above CHIVETASSEL_PACK_MOST */
 #define CHIVETASSEL_BAD_PAUSES 21u          /* more than 32, one that is no stretch of days, or a length that is no multiple of 8 */
 #define CHIVETASSEL_BAD_START 22u           /* above the last day */
 #define CHIVETASSEL_BAD_CHOICE 23u          /* not 1 or 2 */
 #define CHIVETASSEL_NOTHING_TO_SUPPLY 24u   /* no fixed or mixed period, or the start lies after the stop day */
 #define CHIVETASSEL_SHORT_PART_BUFFER 25u   /* split: one of the two buffers has less than CHIVETASSEL_PART_ROOM bytes */
-#define CHIVETASSEL_SHORT_BUFFER 26u        /* the buffer is too short; given ahead of all else */
+#define CHIVETASSEL_SHORT_BUFFER 26u        /* `out` is too short; given ahead of all else */
 
 #define CHIVETASSEL_NOT_SOUND 30u           /* the register is not sound; of clear only: it has no slot */
-#define CHIVETASSEL_NO_SLOT_FREE 31u
+#define CHIVETASSEL_NO_SLOT_FREE 31u        /* the number is not held, and no slot is free */
 #define CHIVETASSEL_NOT_NEWER 32u           /* the number is held, and the revision is not greater */
-#define CHIVETASSEL_NOT_HELD 33u
+#define CHIVETASSEL_NOT_HELD 33u            /* the number is not held */
 #define CHIVETASSEL_OTHER_BYTES 34u         /* the plan is not byte for byte the one that is held */
 #define CHIVETASSEL_NO_SIGNER 35u           /* signer 0 */
 #define CHIVETASSEL_SIGNED_ALREADY 36u      /* the signer is already the first */
@@ -53,40 +94,44 @@ extern "C" {
    lowest block that breaks it. */
 uint32_t chivetassel_verdict(const uint8_t *plan, size_t plan_len);
 
+#define CHIVETASSEL_LOW 1u                  /* choices: low amounts */
+#define CHIVETASSEL_UPPER 2u                /* high amounts, or low ones where high is 0 */
+
+#define CHIVETASSEL_NEEDS_MORE 1u           /* reasons: the next day needs more than the rest */
+#define CHIVETASSEL_STOP_DAY 2u             /* the stop day is reached: the last day of any fixed or mixed period */
+#define CHIVETASSEL_STOP_LAST_DAY 3u        /* the same, and it is the calendar's last day */
+
 /* How far a pack lasts from day `start` on. Amounts are hundredths of the plan's unit; choice 1 counts low amounts, 2 upper
-   ones. A pause is 8 bytes: its first and its last day, which may be the open mark, 32 bits each, least byte first.
-   `out` has at least 32 bytes and overlaps nothing else. Where the call is not refused, its first 32 bytes get four 64-bit
-   numbers, least byte first: days covered, last covered day (the open mark where there is none), rest, and why it ends
-   (1 the next day needs more than the rest, 2 the stop day is reached, 3 the same and it is the calendar's last day). A
-   refused call writes nothing. */
+   ones. A pause is 8 bytes: its first and its last day, which may be the open mark, 32 bits each. `out` gets four 64-bit
+   numbers: days covered, last covered day (the open mark where there is none), rest, and why it ends (1 the next day needs
+   more than the rest, 2 the stop day is reached, 3 the same and it is the calendar's last day). */
 uint32_t chivetassel_supply(const uint8_t *plan, size_t plan_len, uint32_t start, uint64_t pack, uint32_t choice,
                             const uint8_t *pauses, size_t pauses_len, uint8_t *out, size_t out_len);
 
-/* Splits a plan into its fixed and its as-needed part. `fixed` and `need` have at least CHIVETASSEL_PART_ROOM bytes each, `out`
-   at least 16; none overlaps another or the plan. Where the call is not refused, each part stands at the beginning of its
-   buffer, and `out` gets two 64-bit numbers, least byte first: the length of the fixed part and that of the need part. Bytes
-   behind a part stay as they were. A refused call writes nothing, nowhere. */
+/* Splits a plan into its fixed and its as-needed part. `fixed` and `need` have at least CHIVETASSEL_PART_ROOM bytes each. Each
+   part stands at the beginning of its buffer, and `out` gets two 64-bit numbers: the length of the fixed part and that of the
+   need part. Bytes behind a part stay as they were. */
 uint32_t chivetassel_split(const uint8_t *plan, size_t plan_len, uint8_t *fixed, size_t fixed_len, uint8_t *need,
                            size_t need_len, uint8_t *out, size_t out_len);
 
+#define CHIVETASSEL_FIXED_LIST 1u
+#define CHIVETASSEL_NEED_LIST 2u
+
 /* Where in a part the blocks of its first period lie that has `day`: list 1 asks of the fixed part, 2 of the need part. Both
-   are given by their own lengths, as split says them. `out`, at least 16 bytes, gets two 64-bit numbers, least byte first:
-   where the blocks begin in the wanted part, and how many bytes they are. Both are 0 for another list number, for a part that
-   breaks one of rules 1 to 4, and where no period has the day. Refused only with CHIVETASSEL_SHORT_BUFFER. */
+   are given by their own lengths, as split says them. `out` gets two 64-bit numbers: where the blocks begin in the wanted part,
+   and how many bytes they are. Both are 0 for another list number, for a part that breaks one of rules 1 to 4 (its limit
+   is CHIVETASSEL_PART_ROOM), and where no period has the day. Refused only with CHIVETASSEL_SHORT_BUFFER. */
 uint32_t chivetassel_show_day(const uint8_t *fixed, size_t fixed_len, const uint8_t *need, size_t need_len, uint32_t list,
                               uint32_t day, uint8_t *out, size_t out_len);
 
-/* The four sums of a day's doses, into `out` as above: unmarked low, unmarked upper, marked low, marked upper. A plan that is
-   not accepted is refused as by the verdict; a day that no period has gets four zeros. */
+/* The four sums of a day's doses, into `out` as four 64-bit numbers: unmarked low, unmarked upper, marked low, marked upper.
+   A plan that is not accepted is refused as by the verdict; a day that no period has gets four zeros. */
 uint32_t chivetassel_day_sums(const uint8_t *plan, size_t plan_len, uint32_t day, uint8_t *out, size_t out_len);
 
-/* The approval register is a lent buffer of slots of CHIVETASSEL_SLOT bytes, at most 64; bytes behind them are neither read nor
-   written. Begin with chivetassel_clear, and change the bytes by these calls alone: then the register is always sound, and
-   what is released is byte for byte the latest plan accepted under its number since that was last dropped or cleared, signed
-   since by two different signers. No buffer overlaps another. A refused call writes nothing, nowhere. */
-#define CHIVETASSEL_SLOT 16896u
-#define CHIVETASSEL_SLOTS_MOST 64u
-#define CHIVETASSEL_PLAN_ROOM 16384u
+/* The approval register is a lent buffer of slots of CHIVETASSEL_SLOT bytes, at most CHIVETASSEL_SLOTS_MOST; bytes behind them
+   are neither read nor written. Begin with chivetassel_clear, and change the bytes by these calls alone: then the register is
+   always sound, and what is released is byte for byte the latest plan accepted under its number since that was last dropped
+   or cleared, signed since by two different signers. */
 
 /* Frees every slot, whatever stood there. Refused only with CHIVETASSEL_NOT_SOUND, where there is no slot. */
 uint32_t chivetassel_clear(uint8_t *reg, size_t reg_len);
@@ -98,8 +143,8 @@ uint32_t chivetassel_submit(uint8_t *reg, size_t reg_len, const uint8_t *plan, s
 /* Signs the plan as seen, which must be byte for byte the one held under its number. */
 uint32_t chivetassel_sign(uint8_t *reg, size_t reg_len, uint32_t signer, const uint8_t *plan, size_t plan_len);
 
-/* Puts the plan with this number, which two have signed, into `room`, and its length into the first 8 bytes of `out`, least
-   byte first. Bytes behind the plan stay as they were, and so does the register. */
+/* Puts the plan with this number, which two have signed, into `room`, at least CHIVETASSEL_PLAN_ROOM bytes, and its length into
+   `out` as a 64-bit number. Bytes behind the plan stay as they were, and so does the register. */
 uint32_t chivetassel_release(const uint8_t *reg, size_t reg_len, uint32_t number, uint8_t *room, size_t room_len,
                              uint8_t *out, size_t out_len);
 

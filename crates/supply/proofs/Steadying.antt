@@ -5,15 +5,10 @@ use mathlib.Core.List.{List}
 use mathlib.Core.Path.{_≡_, ap}
 use native.Mathlib.Omega.{arith}
 use lib.Dec.{leb}
-use lib.ListN.{length, getD}
 use borrow.Author.Count.{below-more}
 use borrow.Author.Tests.{le-leb, lt-leb}
-use Rattle.below.proofs.Search.{any-same}
 use Rattle.below.proofs.Tests.{and-false}
-use Rattle.day.specs.Days.{closedDay}
 use Rattle.doses.specs.Doses.{covers}
-use Rattle.pause.specs.Pauses.{noDay, holds, isPaused}
-use Rattle.pause.specs.declared.Pause.{Pause}
 use Rattle.plan.specs.Fields.{firstOf, lastOf}
 use Rattle.plan.specs.Periods.{blockAt, isPeriod}
 use Rattle.supply.specs.Capped.{Steady}
@@ -29,10 +24,7 @@ module _ (first last day : ℕ) where
   pub past : {u : ℕ} → last < day → Steady (λ e. leb first e && leb e last) day u
   past l e h m = rw (lt-leb e last (omega arith), lt-leb day last l, and-false (leb first e), and-false (leb first day))
 
--- a pause and a period, by their first and last day
-pub pause-steady : (x : Pause) {day last u : ℕ} → last ≡ closedDay (x .last) → (day ≤ u) × Steady (λ e. leb (x .first) e && leb e last) day u → (day ≤ u) × Steady (holds x) day u
-pause-steady x l s = rw l at s
-
+-- a period, by its first and last day
 pub period-steady : (p : List ℕ) (b : ℕ) {day first last u : ℕ} → first ≡ firstOf (blockAt p b) → last ≡ lastOf (blockAt p b) →
     (day ≤ u) × Steady (λ e. leb first e && leb e last) day u → (day ≤ u) × Steady (λ e. covers p e b) day u
 period-steady p b {day} {first} {last} {u} f l s =
@@ -57,8 +49,3 @@ module _ (test : ℕ → ℕ → Bool) {day : ℕ} where
             (λ k l e a b. s .each k l e a (omega arith))
             (λ e a b. h .1 e a (omega arith));
       }
-
--- the pauses together
-pub pauses-steady : (ps : List Pause) {day u : ℕ} → ((k : ℕ) → k < length ps → Steady (holds (getD ps k noDay)) day u) → Steady (isPaused ps) day u
-unfolding isPaused
-pauses-steady ps h e l m = any-same _ _ (length ps) (λ k q. h k q e l m)

@@ -1,4 +1,4 @@
--- What the walk keeps from day to day: while pauses and periods stay, a day needs what the one fixed or mixed period that has it
+-- What the walk keeps from day to day: while the periods stay, a day needs what the one fixed or mixed period that has it
 -- needs at its position, and nothing where there is none. Assumes nothing.
 use Prim.Native.Nat.{ℕ, _+_, _-_, _≤_, _<_, min}
 use mathlib.Core.Bool.{Bool, true, false, cond, not, _&&_, _||_}
@@ -19,7 +19,7 @@ use Rattle.pause.specs.Pauses.{isPaused}
 use Rattle.pause.specs.declared.Pause.{Pause}
 use Rattle.plan.specs.Fields.{intervalOf, isMarked}
 use Rattle.plan.specs.Periods.{blocksOf, blockAt, isPeriod, dosesOf, doseIn, hasUnmarked, hasMarked, classBy, classOf, fixed, mixed}
-use Rattle.supply.specs.Capped.{cap, Sorted, supplies, needAt, Orderly, Steady, Stands, Listed, Known}
+use Rattle.supply.specs.Capped.{cap, Sorted, supplies, needAt, Orderly, Steady, dueOn, Stands, Listed, Known}
 use Rattle.supply.specs.Need.{chosen, needOn, isSupplied}
 use Rattle.supply.specs.declared.today.Today.{Today}
 use Rattle.supply.proofs.Range.{sum-flat, period-sum}
@@ -87,48 +87,24 @@ module _ (choice : ℕ) (p : List ℕ) where
           (λ c q m. block-out c (o .alone d b c q m h))
           ∙ block-in b h
 
--- the days from d to u have the pauses and the periods of day d
-pub record Unchanged (p : List ℕ) (ps : List Pause) (d u : ℕ) : Type 0 where
-  pub reached : d ≤ u
-  pub paused : Steady (isPaused ps) d u
-  pub within : (b : ℕ) → b < blocksOf p → Steady (λ e. covers p e b) d u
-
-pub unchanged : (p : List ℕ) (ps : List Pause) {d u v w : ℕ} → (d ≤ u) × Steady (isPaused ps) d u →
-    (d ≤ v) × ((b : ℕ) → b < blocksOf p → Steady (λ e. covers p e b) d v) → w ≡ min u v → Unchanged p ps d w
-unchanged p ps x y m =
-    record {
-      reached = omega (arith, x .0, y .0);
-      paused = λ e h l. x .1 e h (omega arith);
-      within = λ b q e h l. y .1 b q e h (omega arith);
-    }
-
-module _ (choice : ℕ) (p : List ℕ) (ps : List Pause) (o : Orderly p) {d u : ℕ} (w : Unchanged p ps d u) where
+-- the days from d to u have the periods of day d
+module _ (choice : ℕ) (p : List ℕ) (o : Orderly p) {d u : ℕ} (w : (b : ℕ) → b < blocksOf p → Steady (λ e. covers p e b) d u) where
   supplied-same : (b : ℕ) → b < blocksOf p → (e : ℕ) → d ≤ e → e ≤ u → supplies p e b ≡ supplies p d b
-  supplied-same b l e h m = ap (λ (t : Bool). t && isSupplied p b) (w .within b l e h m)
-
-  -- they are paused
-  pub paused-needs : isPaused ps d ≡ true → (e : ℕ) → d ≤ e → e ≤ u → needOn choice p ps e ≡ 0
-  unfolding needOn
-  paused-needs t e h m = rw (w .paused e h m, t)
+  supplied-same b l e h m = ap (λ (t : Bool). t && isSupplied p b) (w b l e h m)
 
   -- no fixed or mixed period has them
-  pub out-needs : {b : ℕ} → b ≡ firstBelow (blocksOf p) (supplies p d) → blocksOf p ≤ b → isPaused ps d ≡ false →
-      (e : ℕ) → d ≤ e → e ≤ u → needOn choice p ps e ≡ 0
-  unfolding needOn
-  out-needs {b} f l t e h m =
+  pub out-needs : {b : ℕ} → b ≡ firstBelow (blocksOf p) (supplies p d) → blocksOf p ≤ b → (e : ℕ) → d ≤ e → e ≤ u → dueOn choice p e ≡ 0
+  out-needs {b} f l e h m =
       let x = first-facts (supplies p d) (blocksOf p) in
-      rw (w .paused e h m, t)
-      (none-needs choice p e o (λ c q. supplied-same c q e h m ∙ x .before c (omega (arith, f))))
+      none-needs choice p e o (λ c q. supplied-same c q e h m ∙ x .before c (omega (arith, f)))
 
   -- one has them
-  pub in-needs : {b : ℕ} → b ≡ firstBelow (blocksOf p) (supplies p d) → b < blocksOf p → isPaused ps d ≡ false →
-      (e : ℕ) → d ≤ e → e ≤ u → needOn choice p ps e ≡ needAt choice p b (positionOf (blockAt p b) e)
-  unfolding needOn
-  in-needs {b} f l t e h m =
+  pub in-needs : {b : ℕ} → b ≡ firstBelow (blocksOf p) (supplies p d) → b < blocksOf p →
+      (e : ℕ) → d ≤ e → e ≤ u → dueOn choice p e ≡ needAt choice p b (positionOf (blockAt p b) e)
+  in-needs {b} f l e h m =
       let x = rw (← f) at (first-facts (supplies p d) (blocksOf p)) in
-      rw (w .paused e h m, t)
-      (one-needs choice p e o b l (supplied-same b l e h m ∙ x .here l)
-      (λ c q. supplied-same c (omega arith) e h m ∙ x .before c q))
+      one-needs choice p e o b l (supplied-same b l e h m ∙ x .here l)
+      (λ c q. supplied-same c (omega arith) e h m ∙ x .before c q)
 
 -- the block that the search found begins a period whose day numbers do not fall
 pub found-sorted : (p : List ℕ) (o : Orderly p) (d : ℕ) {b : ℕ} → b ≡ firstBelow (blocksOf p) (supplies p d) → b < blocksOf p → Sorted p b
@@ -142,10 +118,10 @@ every-day : (r : List ℕ) (d e : ℕ) → intervalOf r ≡ 1 → positionOf r e
 unfolding positionOf
 every-day r d e i = rw i (omega arith)
 
-module _ (choice : ℕ) (p : List ℕ) (ps : List Pause) {d : ℕ} {t : Today} where
+module _ (choice : ℕ) (p : List ℕ) {d : ℕ} {t : Today} where
   -- days that need nothing
-  pub known-nothing : {u : ℕ} → d ≤ u → (t .until ≡ u) × (t .need ≡ 0) × (t .varies ≡ false) × (t .listed ≡ 0) →
-      ((e : ℕ) → d ≤ e → e ≤ u → needOn choice p ps e ≡ 0) → Known choice p ps d t
+  pub known-nothing : {u : ℕ} → d ≤ u → (t .until ≡ u) × (t .due ≡ 0) × (t .varies ≡ false) × (t .listed ≡ 0) →
+      ((e : ℕ) → d ≤ e → e ≤ u → dueOn choice p e ≡ 0) → Known choice p d t
   known-nothing l x h =
       record {
         today = omega (arith, x .1, h d (omega arith) l);
@@ -157,7 +133,7 @@ module _ (choice : ℕ) (p : List ℕ) (ps : List Pause) {d : ℕ} {t : Today} w
 
   -- days of a period
   pub known-in : {b u : ℕ} → Stands choice p (positionOf (blockAt p b) d) b u (not (eqb (intervalOf (blockAt p b)) 1)) t × (t .listed ≤ 256) → d ≤ u →
-      ((e : ℕ) → d ≤ e → e ≤ u → needOn choice p ps e ≡ needAt choice p b (positionOf (blockAt p b) e)) → Known choice p ps d t
+      ((e : ℕ) → d ≤ e → e ≤ u → dueOn choice p e ≡ needAt choice p b (positionOf (blockAt p b) e)) → Known choice p d t
   known-in {b} {u} (s, f) l h =
       record {
         today = s .need-is ∙ ap (min cap) (sym (h d (omega arith) l));
@@ -172,9 +148,9 @@ module _ (choice : ℕ) (p : List ℕ) (ps : List Pause) {d : ℕ} {t : Today} w
       }
 
   -- the next day
-  module _ {r : Today} (k : Known choice p ps d t) (l : d + 1 ≤ t .until) where
+  module _ {r : Today} (k : Known choice p d t) (l : d + 1 ≤ t .until) where
     known-moves : t .varies ≡ true →
-        Stands choice p (positionOf (blockAt p (t .b)) (d + 1)) (t .b) (t .until) true r × (r .listed ≡ t .listed) → Known choice p ps (d + 1) r
+        Stands choice p (positionOf (blockAt p (t .b)) (d + 1)) (t .b) (t .until) true r × (r .listed ≡ t .listed) → Known choice p (d + 1) r
     known-moves v (s, f) =
         record {
           today = s .need-is ∙ ap (min cap) (sym (k .one v (d + 1) (omega arith) l));
@@ -184,7 +160,7 @@ module _ (choice : ℕ) (p : List ℕ) (ps : List Pause) {d : ℕ} {t : Today} w
           one = λ q e m n. rw (s .block) (k .one v e (omega arith) (omega (arith, s .until-is)));
         }
 
-    known-stays : t .varies ≡ false → r ≡ t → Known choice p ps (d + 1) r
+    known-stays : t .varies ≡ false → r ≡ t → Known choice p (d + 1) r
     known-stays v s =
         rw s
         (record {
@@ -196,7 +172,7 @@ module _ (choice : ℕ) (p : List ℕ) (ps : List Pause) {d : ℕ} {t : Today} w
         })
 
     pub known-on : (t .varies ≡ true → Stands choice p (positionOf (blockAt p (t .b)) (d + 1)) (t .b) (t .until) true r × (r .listed ≡ t .listed)) →
-        (t .varies ≡ false → r ≡ t) → Known choice p ps (d + 1) r
+        (t .varies ≡ false → r ≡ t) → Known choice p (d + 1) r
     known-on f g = ⊎-elim (λ v. known-moves v (f v)) (λ v. known-stays v (g v)) (bool-cases (t .varies))
 
 -- the list stays right
@@ -209,3 +185,13 @@ listed-on choice p {t = t} {r = r} k f g q =
     (λ (v : t .varies ≡ true). rw (f v .0 .block, f v .1) (k v))
     (λ (v : t .varies ≡ false). absurd (true-not-false q (ap (λ (y : Today). y .varies) (g v) ∙ v)))
     (bool-cases (t .varies))
+
+-- a paused day needs nothing
+pub with-pauses : (choice : ℕ) (p : List ℕ) (ps : List Pause) (d : ℕ) {due need : ℕ} → due ≡ min cap (dueOn choice p d) →
+    need ≡ cond (isPaused ps d) 0 due → need ≡ min cap (needOn choice p ps d)
+unfolding needOn
+with-pauses choice p ps d {due} e f =
+    ⊎-elim
+    (λ (t : isPaused ps d ≡ true). rw t (rw t at f))
+    (λ (t : isPaused ps d ≡ false). rw t ((rw t at f) ∙ e))
+    (bool-cases (isPaused ps d))

@@ -7,11 +7,11 @@ use mathlib.Core.List.{List}
 use lib.Dec.{eqb}
 use lib.ListN.{length, getD}
 use Rattle.below.specs.Below.{sumBelow}
-use Rattle.doses.specs.Doses.{covers, positionOf, applies}
-use Rattle.pause.specs.declared.Pause.{Pause}
+use Rattle.below.specs.Lists.{sumOver}
+use Rattle.doses.specs.Doses.{covers, positionOf, applies, dosesOn}
 use Rattle.plan.specs.Periods.{blocksOf, blockAt, isPeriod, dosesOf, doseIn}
 use Rattle.supply.specs.declared.today.Today.{Today}
-use Rattle.supply.specs.Need.{chosen, needOn, isSupplied}
+use Rattle.supply.specs.Need.{chosen, isSupplied}
 
 -- one more than the largest pack
 abbrev pub cap : ℕ
@@ -61,7 +61,7 @@ pub record Stands (choice : ℕ) (p : List ℕ) (x b until : ℕ) (varies : Bool
   pub block : t .b ≡ b
   pub until-is : t .until ≡ until
   pub varies-is : t .varies ≡ varies
-  pub need-is : t .need ≡ min cap (needAt choice p b x)
+  pub need-is : t .due ≡ min cap (needAt choice p b x)
   pub placed : Placed p t
 
 -- the list has what the positions from 1 to below n need in the period at block b
@@ -69,11 +69,15 @@ pub record Listed (choice : ℕ) (p : List ℕ) (b n : ℕ) (needs : List ℕ) :
   pub long : length needs ≡ 256
   pub entry : (x : ℕ) → x < n → 0 < x → getD needs x 0 ≡ min cap (needAt choice p b x)
 
+-- what a day needs where it is not paused
+abbrev pub dueOn : ℕ → List ℕ → ℕ → ℕ
+dueOn choice p d = sumOver (chosen choice) (dosesOn p d)
+
 -- t is what day d has, and holds what is needed to go on from it up to its last day
-pub record Known (choice : ℕ) (p : List ℕ) (ps : List Pause) (d : ℕ) (t : Today) : Type 0 where
-  pub today : t .need ≡ min cap (needOn choice p ps d)
-  pub same : t .varies ≡ false → (e : ℕ) → d ≤ e → e ≤ t .until → t .need ≡ min cap (needOn choice p ps e)
+pub record Known (choice : ℕ) (p : List ℕ) (d : ℕ) (t : Today) : Type 0 where
+  pub today : t .due ≡ min cap (dueOn choice p d)
+  pub same : t .varies ≡ false → (e : ℕ) → d ≤ e → e ≤ t .until → t .due ≡ min cap (dueOn choice p e)
   pub few : t .listed ≤ 256
   pub placed : t .varies ≡ true → Placed p t
   pub one : t .varies ≡ true → (e : ℕ) → d ≤ e → e ≤ t .until →
-      needOn choice p ps e ≡ needAt choice p (t .b) (positionOf (blockAt p (t .b)) e)
+      dueOn choice p e ≡ needAt choice p (t .b) (positionOf (blockAt p (t .b)) e)

@@ -1,4 +1,4 @@
-// What the day behind a day needs, while pauses and periods stay. A position that comes again is looked up; where an interval is
+// What the day behind a day needs, while the periods stay. A position that comes again is looked up; where an interval is
 // long, or the period is not iterated, the doses are gone through from where the day ahead ended.
 use crate::need::due_at;
 use crate::need::first_from;
@@ -58,7 +58,7 @@ fn moved(plan: &[u8], choice: u32, position: u64, t: Today) -> Today
     let due = due_at(plan, choice, t.b, t.doses, position, from);
     Today {
         until: t.until,
-        need: due.need,
+        due: due.need,
         varies: true,
         b: t.b,
         doses: t.doses,
@@ -81,7 +81,7 @@ pub(crate) fn next_day(plan: &[u8], choice: u32, day: u32, t: Today, needs: &[u6
     let position = position_of(block_of(plan, t.b as u16), day);
     if position < (t.listed as u64) {
         let mut r = t;
-        r.need = needs[position as usize];
+        r.due = needs[position as usize];
         return r;
     }
     moved(plan, choice, position, t)

@@ -1,14 +1,11 @@
-// What a day needs, and what of it is kept for the next day: a day of the walk costs a look-up, and no search of the plan.
+// What the doses of a day need, and what of it is kept for the next day: a day of the walk costs a look-up, and no search of the
+// plan.
 use crate::need::due_at;
 use crate::need::first_from;
 use crate::need::lowest_at;
-use crate::until::least;
-use crate::until::pauses_until;
 use crate::until::periods_until;
 use doses::is_covering;
 use doses::position_of;
-use pause::Pause;
-use pause::paused_today;
 use plan::block_of;
 use plan::class_of;
 use plan::doses_of;
@@ -25,12 +22,12 @@ ghost use Rattle.plan.specs.Periods.{blocksOf, blockAt};
 ghost use Rattle.supply.specs.Need.{isSupplied};
 ghost use Rattle.supply.specs.Capped.{Sorted, supplies, Orderly, Stands, Known};
 
-// What a day needs. Up to day `until` the days have the same pauses and periods. Where the need varies among them, they are the
-// days of the fixed or mixed period at block b; dose `behind` is the one behind the doses of `position`, and what positions below
-// `listed` need is worked out once.
+// What the doses of a day need, pauses apart. Up to day `until` the days are in the same periods. Where what is due varies among
+// them, they are the days of the fixed or mixed period at block b; dose `behind` is the one behind the doses of `position`, and
+// what positions below `listed` need is worked out once.
 pub(crate) struct Today {
     pub until: u32,
-    pub need: u64,
+    pub due: u64,
     pub varies: bool,
     pub b: u8,
     pub doses: u16,
@@ -76,11 +73,11 @@ fn supplying_on(plan: &[u8], day: u32) -> u8
 
 // Days that need nothing.
 fn nothing_until(until: u32) -> Today
-    ensures { λ r. ⌜ (r .until ≡ until) × (r .need ≡ 0) × (r .varies ≡ false) × (r .listed ≡ 0) ⌝ }
+    ensures { λ r. ⌜ (r .until ≡ until) × (r .due ≡ 0) × (r .varies ≡ false) × (r .listed ≡ 0) ⌝ }
 {
     Today {
         until,
-        need: 0,
+        due: 0,
         varies: false,
         b: 0,
         doses: 0,
@@ -116,7 +113,7 @@ fn in_period(plan: &[u8], choice: u32, day: u32, until: u32, b: u8) -> Today
     let due = due_at(plan, choice, b, doses, position, from);
     Today {
         until,
-        need: due.need,
+        due: due.need,
         varies,
         b,
         doses,
@@ -126,15 +123,12 @@ fn in_period(plan: &[u8], choice: u32, day: u32, until: u32, b: u8) -> Today
     }
 }
 
-// What a day needs, worked out from the plan and the pauses.
-pub(crate) fn on_day(plan: &[u8], at: [Pause; 32], choice: u32, day: u32) -> Today
+// What the doses of a day need, worked out from the plan.
+pub(crate) fn on_day(plan: &[u8], choice: u32, day: u32) -> Today
     requires { ⌜ Orderly (now plan) ⌝ }
-    ensures { λ r. ⌜ Known choice (now (plan .entry)) at day r ⌝ }
+    ensures { λ r. ⌜ Known choice (now (plan .entry)) day r ⌝ }
 {
-    let until = least(pauses_until(at, day), periods_until(plan, day));
-    if paused_today(at, day) {
-        return nothing_until(until);
-    }
+    let until = periods_until(plan, day);
     let b = supplying_on(plan, day);
     if (b as usize) < plan.len() / 512 {
         return in_period(plan, choice, day, until, b);

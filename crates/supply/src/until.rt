@@ -1,7 +1,5 @@
-// Up to which day nothing changes: the days from the day at hand to that one have the same pauses and the same periods. So the
-// walk asks for these where they change, and not on each day.
-use day::Day;
-use pause::Pause;
+// Up to which day nothing changes: the days from the day at hand to that one are in the same periods. So the walk asks for these
+// where they change, and not on each day.
 use plan::block_of;
 use plan::first_of;
 use plan::last_of;
@@ -10,7 +8,6 @@ ghost use mathlib.Core.Bool.{_&&_};
 ghost use Prim.Native.Nat.{ℕ, _≤_, _<_, min};
 ghost use lib.Dec.{leb};
 ghost use Rattle.doses.specs.Doses.{covers};
-ghost use Rattle.pause.specs.Pauses.{holds, isPaused};
 ghost use Rattle.plan.specs.Periods.{blocksOf};
 ghost use Rattle.supply.specs.Capped.{Orderly, Steady};
 
@@ -34,23 +31,6 @@ fn same_until(first: u32, last: u32, day: u32) -> u32
         return last;
     }
     NEVER
-}
-
-fn pause_until(p: Pause, day: u32) -> u32
-    ensures { λ r. ⌜ (day ≤ r) × Steady (holds p) day r ⌝ }
-{
-    same_until(p.first, Day::new(p.last).closed().number, day)
-}
-
-// Up to which day the days are paused as this one is, or are not.
-pub(crate) fn pauses_until(at: [Pause; 32], day: u32) -> u32
-    ensures { λ r. ⌜ (day ≤ r) × Steady (isPaused at) day r ⌝ }
-{
-    let mut until = NEVER;
-    for i in 0..32usize {
-        until = least(until, pause_until(at[i], day));
-    }
-    until
 }
 
 // Up to which day the period at block b, if there is one, has the days as it has this one, or has not.

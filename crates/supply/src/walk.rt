@@ -5,6 +5,7 @@ use crate::next::next_day;
 use crate::today::is_supplied;
 use crate::today::on_day;
 use pause::Pause;
+use pause::paused_today;
 use plan::block_of;
 use plan::last_of;
 ghost use mathlib.Core.Path.{_≡_};
@@ -12,6 +13,7 @@ ghost use Prim.Native.Nat.{_+_, _-_, _≤_, _<_, max};
 ghost use mathlib.Core.Bool.{cond};
 ghost use lib.Dec.{eqb};
 ghost use Rattle.day.specs.Days.{openMark};
+ghost use Rattle.pause.specs.Pauses.{isPaused};
 ghost use Rattle.supply.specs.Need.{needOn, stopDay, hasStop};
 ghost use Rattle.supply.specs.Supply.{lastingOf};
 ghost use Rattle.supply.specs.Capped.{cap, Orderly};
@@ -64,6 +66,16 @@ fn last_of_days(start: u32, n: u32) -> u32
     start + n - 1
 }
 
+// What a day needs whose doses need so much: nothing if it is paused.
+fn need_today(at: [Pause; 32], day: u32, due: u64) -> u64
+    ensures { λ r. ⌜ r ≡ cond (isPaused at day) 0 due ⌝ }
+{
+    if paused_today(at, day) {
+        return 0;
+    }
+    due
+}
+
 // How far the pack lasts.
 pub(crate) fn lasting(
     plan: &[u8],
@@ -79,10 +91,10 @@ pub(crate) fn lasting(
 {
     let mut n: u32 = 0;
     let mut rest = pack;
-    let mut t = on_day(plan, at, choice, start);
+    let mut t = on_day(plan, choice, start);
     let mut needs = needs_of(plan, choice, t);
     while n <= stop - start {
-        let need = t.need;
+        let need = need_today(at, start + n, t.due);
         if rest < need {
             return Lasting {
                 days: n,
@@ -94,7 +106,7 @@ pub(crate) fn lasting(
         rest -= need;
         n += 1;
         if t.until < start + n {
-            t = on_day(plan, at, choice, start + n);
+            t = on_day(plan, choice, start + n);
             let list = needs_of(plan, choice, t);
             needs = list;
         } else {

@@ -1,0 +1,9 @@
+#ifndef LIBC_FCNTL_H
+#define LIBC_FCNTL_H
+#define O_RDONLY 0
+#define O_WRONLY 1
+#define O_CREAT 0100
+#define O_EXCL 0200
+#define O_TRUNC 01000
+int open(const char *, int, ...);
+#endif
