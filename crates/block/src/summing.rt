@@ -69,7 +69,8 @@ pub fn sums_right(b: &[u8]) -> bool
     (word_in(b, 504) == s.first) & (word_in(b, 508) == s.second)
 }
 
-// Writes a block's sums. What is no whole block is left as it is.
+// Writes a block's sums. What is no whole block is left as it is, and so are sums that are right: with this look at both, the
+// compiled sums are as wide as in `sums_right`.
 pub fn seal(b: &mut [u8])
     ensures { λ _. ⌜ now (b .exit) ≡ sealed (now (b .entry)) ⌝ }
 {
@@ -77,6 +78,9 @@ pub fn seal(b: &mut [u8])
         return;
     }
     let s = sums_of(&*b);
+    if (word_in(&*b, 504) == s.first) & (word_in(&*b, 508) == s.second) {
+        return;
+    }
     put_word(&mut *b, 504, s.first);
     put_word(&mut *b, 508, s.second);
 }

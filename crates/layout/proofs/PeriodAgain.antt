@@ -1,5 +1,5 @@
 -- A period of bytes that break none of rules 1 to 4 stands there as it is laid out. Assumes nothing.
-use Prim.Native.Nat.{ℕ, zero, suc, _+_, _*_, _/_, _%_, _≤_, _<_}
+use Prim.Native.Nat.{ℕ, zero, suc, _+_, _*_, _≤_, _<_}
 use mathlib.Core.Bool.{true, false, not, _||_}
 use mathlib.Core.List.{List, _++_}
 use mathlib.Core.Logic.{_⊎_, inl, inr, ⊎-elim}
@@ -21,6 +21,7 @@ use Rattle.form.proofs.Laws.{whole, short, length-block}
 use Rattle.form.proofs.Ranged.{goes, inside, doses-in, full, count-in}
 use Rattle.form.specs.Form.{daysOut, notZero, dosesOut, periodOut, continuationOut, blockOut}
 use Rattle.form.specs.Whole.{Whole}
+use Rattle.plan.proofs.Marks.{at-place}
 use Rattle.plan.specs.Fields.{kindOf, countOf, recordAt, doseOf}
 use Rattle.plan.specs.Periods.{blocksOf, blockAt, isPeriod, isContinuation, moreOf, dosesOf, doseIn}
 use Rattle.plan.specs.declared.Dose.{Dose}
@@ -30,14 +31,6 @@ use Rattle.layout.proofs.Blocks.{startAt, period-is, start-first, start
 use Rattle.layout.proofs.Fitting.{block-bytes}
 use Rattle.layout.proofs.Rebuild.{dosesIn, period-start, continuation-start, doses-block}
 use Rattle.layout.proofs.Standing.{sizeOf, Stands}
-
--- dose k of a period's block i
-at-place : (p : List ℕ) (b i k : ℕ) → k < 20 → doseIn p b (i * 20 + k) ≡ doseOf (recordAt (blockAt p (b + i)) k)
-unfolding doseIn
-at-place p b i k q =
-    let x : (i * 20 + k) / 20 ≡ i = omega arith in
-    let y : (i * 20 + k) % 20 ≡ k = omega arith in
-    rw (x, y)
 
 -- the doses of one block of a period, out of all: 20, or the last ones
 here-is : (D a c : ℕ) (g : ℕ → Dose) → a + c ≤ D → (c ≡ 20) ⊎ ((a + c ≡ D) × (c ≤ 20)) → take 20 (drop a (listBelow D g)) ≡ listBelow c (λ k. g (a + k))

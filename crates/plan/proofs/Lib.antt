@@ -1,3 +1,4 @@
 -- The laws that other crates' proofs cite.
 pub mod Parts
 pub mod Opened
+pub mod Marks

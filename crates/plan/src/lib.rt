@@ -21,6 +21,7 @@ pub use periods::block_of;
 pub use periods::class_by;
 pub use periods::class_of;
 pub use periods::dose_in;
+pub use periods::doses_here;
 pub use periods::doses_of;
 pub use periods::is_period;
 pub use periods::more_blocks;

@@ -5,9 +5,11 @@ use crate::fields::dose_at;
 use crate::fields::is_marked;
 use crate::fields::kind_of;
 ghost use mathlib.Core.Path.{_≡_};
-ghost use Prim.Native.Nat.{_+_, _≤_, _<_};
-ghost use mathlib.Core.Bool.{not};
-ghost use Rattle.plan.specs.Fields.{isMarked};
+ghost use Prim.Native.Nat.{_+_, _-_, _*_, _/_, _≤_, _<_, min};
+ghost use mathlib.Core.Bool.{not, _||_};
+ghost use lib.ListN.{length};
+ghost use Rattle.below.specs.Below.{anyBelow};
+ghost use Rattle.plan.specs.Fields.{recordAt, doseOf, isMarked};
 ghost use Rattle.plan.specs.Periods.{blockAt, isPeriod, isContinuation, moreOf, dosesOf, doseIn, classBy, classOf};
 
 // Block b: a part in the plan's middle.
@@ -78,11 +80,11 @@ pub fn class_by(unmarked: bool, marked: bool) -> u8
     }
 }
 
-// The class of the period at block b.
-pub fn class_of(plan: &[u8], b: u8) -> u8
+// The class of the period at block b with its n doses, dose by dose.
+fn class_by_doses(plan: &[u8], b: u8, n: u16) -> u8
+    requires { ⌜ n ≡ dosesOf (now plan) b ⌝ }
     ensures { λ r. ⌜ (r ≡ classOf (now (plan .entry)) b) × (r < 4) ⌝ }
 {
-    let n = doses_of(plan, b);
     let mut unmarked = false;
     let mut marked = false;
     for j in 0..n {
@@ -91,4 +93,66 @@ pub fn class_of(plan: &[u8], b: u8) -> u8
         marked = marked | m;
     }
     class_by(unmarked, marked)
+}
+
+// Are there unmarked doses, and marked ones?
+struct Marks {
+    unmarked: bool,
+    marked: bool,
+}
+
+// The same with the first n doses of a block. There is no early way out, so that the compiled loop is wide.
+fn with_marks(m: Marks, r: &[u8], n: u8) -> Marks
+    requires { ⌜ (length (now r) ≡ 512) × (n ≤ 20) ⌝ }
+    ensures { λ s. ⌜ (s .unmarked ≡ (m .unmarked || anyBelow n (λ i. not (isMarked (doseOf (recordAt (now (r .entry)) i)))))) × (s .marked ≡ (m .marked || anyBelow n (λ i. isMarked (doseOf (recordAt (now (r .entry)) i))))) ⌝ }
+{
+    let mut unmarked = m.unmarked;
+    let mut marked = m.marked;
+    for i in 0..n {
+        let mark = r[27 + (i as usize) * 24] == 1;
+        unmarked = unmarked | !mark;
+        marked = marked | mark;
+    }
+    Marks { unmarked, marked }
+}
+
+// Of n doses, 20 to a block, those in block i.
+pub fn doses_here(n: u16, i: u16) -> u8
+    ensures { λ r. ⌜ r ≡ min 20 (n - i * 20) ⌝ }
+{
+    let all = n as u32;
+    let ahead = (i as u32) * 20;
+    if all <= ahead {
+        return 0;
+    }
+    let left = all - ahead;
+    if left < 20 { left as u8 } else { 20 }
+}
+
+// The class of the period at block b with its n doses, block by block.
+fn class_by_blocks(plan: &[u8], b: u8, n: u16) -> u8
+    requires { ⌜ (n ≡ dosesOf (now plan) b) × (n ≤ 1515) × ((b + (n + 19) / 20) * 512 ≤ length (now plan)) ⌝ }
+    ensures { λ r. ⌜ (r ≡ classOf (now (plan .entry)) b) × (r < 4) ⌝ }
+{
+    let mut m = Marks {
+        unmarked: false,
+        marked: false,
+    };
+    for i in 0..((n + 19) / 20) {
+        let next = with_marks(m, block_of(plan, (b as u16) + i), doses_here(n, i));
+        m = next;
+    }
+    class_by(m.unmarked, m.marked)
+}
+
+// The class of the period at block b.
+pub fn class_of(plan: &[u8], b: u8) -> u8
+    ensures { λ r. ⌜ (r ≡ classOf (now (plan .entry)) b) × (r < 4) ⌝ }
+{
+    let n = doses_of(plan, b);
+    let end = ((b as usize) + ((n as usize) + 19) / 20) * 512;
+    if plan.len() < end {
+        return class_by_doses(plan, b, n);
+    }
+    class_by_blocks(plan, b, n)
 }

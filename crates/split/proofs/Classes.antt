@@ -1,11 +1,11 @@
 -- The classes of the periods, worked out one by one, and what is asked by them. Assumes nothing.
 use Prim.Native.Nat.{ℕ, _+_, _≤_, _<_}
-use mathlib.Core.Bool.{Bool, true, false, cond, _&&_, _||_}
+use mathlib.Core.Bool.{Bool, true, false, cond, not, _&&_, _||_}
 use mathlib.Core.List.{List, [], _∷_, _++_}
 use mathlib.Core.Path.{_≡_, refl, sym, ap, _∙_}
 use native.Mathlib.Omega.{arith}
 use lib.Dec.{eqb, leb, ltb}
-use lib.ListN.{getD, set, replicate, length-replicate, length-set}
+use lib.ListN.{length, getD, set, length-set}
 use lib.Seq.{getD-set-same, getD-set-other}
 use borrow.Author.Count.{below-more}
 use borrow.Author.Tests.{lt-ltb, le-ltb, le-leb, lt-leb}
@@ -14,11 +14,11 @@ use Rattle.plan.specs.Fields.{firstOf, lastOf}
 use Rattle.plan.specs.Periods.{blocksOf, blockAt, isPeriod, empty, mixed, classOf}
 use Rattle.verdict.specs.Ready.{Classed}
 use Rattle.split.specs.Parts.{isDosedIn, dosedPeriod, nextDosed, runFirst, runLast, sharesRun, sharedIn, behind, broughtBy}
-use Rattle.split.specs.Adding.{ClassedTo, ownClass}
+use Rattle.split.specs.Adding.{ClassedTo, ownClass, isOther}
 use Rattle.split.proofs.Adding.{dosed-is}
 
-pub classed-none : (p : List ℕ) → ClassedTo p 0 (replicate 32 0)
-classed-none p = record { long = length-replicate {A = ℕ} 32 0; entry = λ c l. absurd (omega arith) }
+pub classed-none : (p cs : List ℕ) → length cs ≡ 32 → ClassedTo p 0 cs
+classed-none p cs n = record { long = n; entry = λ c l. absurd (omega arith) }
 
 module _ {p cs : List ℕ} {b : ℕ} (s : ClassedTo p b cs) where
   -- no period begins at block b
@@ -54,6 +54,10 @@ module _ (p : List ℕ) (b : ℕ) {class : ℕ} (right : isPeriod p b ≡ true �
   dosed-by marked {t} {own} e f =
       rw (f, e) (same-and (isPeriod p b) (eqb class (ownClass marked) || eqb class 3) (eqb (classOf p b) (ownClass marked) || eqb (classOf p b) mixed) (λ h. rw (right h)) ∙
       sym (dosed-is marked p b))
+
+  pub other-by : (marked : Bool) {t : Bool} {own : ℕ} → own ≡ ownClass marked → t ≡ isPeriod p b → (t && not (eqb class own)) ≡ isOther marked p b
+  other-by marked {t} {own} e f =
+      rw (f, e) (same-and (isPeriod p b) (not (eqb class (ownClass marked))) (not (eqb (classOf p b) (ownClass marked))) (λ h. rw (right h)))
 
   pub shares-by : (lo hi : ℕ) {t : Bool} {first last : ℕ} → t ≡ isPeriod p b → first ≡ firstOf (blockAt p b) → last ≡ lastOf (blockAt p b) →
       (t && eqb class 0 && (leb first hi && leb lo last)) ≡ sharesRun p lo hi b

@@ -12,3 +12,7 @@ pub mod Runs
 pub mod Adding
 pub mod Classes
 pub mod Days
+pub mod Alone
+pub mod Puts
+pub mod Records
+pub mod Copied

@@ -1,15 +1,21 @@
 -- What the calls that write a part add to it, wherever the writing stands. No rule is stated here.
-use Prim.Native.Nat.{ℕ, _+_, _≤_, _<_}
-use mathlib.Core.Bool.{Bool, true, cond}
+use Prim.Native.Nat.{ℕ, _+_, _-_, _*_, _≤_, _<_}
+use mathlib.Core.Bool.{Bool, true, cond, not, _&&_}
 use mathlib.Core.List.{List, [], _∷_, _++_}
 use mathlib.Core.Path.{_≡_}
+use lib.Dec.{eqb}
 use lib.ListN.{length, getD}
+use Rattle.below.specs.Below.{anyBelow}
+use Rattle.below.specs.Lists.{listBelow, keep, joinOver}
+use Rattle.block.specs.Bytes.{put}
 use Rattle.plan.specs.declared.Dose.{Dose}
-use Rattle.plan.specs.Periods.{isPeriod, fixed, need, classOf}
-use Rattle.layout.specs.Layout.{Written, bodyOf}
+use Rattle.plan.specs.Fields.{recordAt, doseOf}
+use Rattle.plan.specs.Periods.{blocksOf, isPeriod, fixed, need, classOf}
+use Rattle.layout.specs.Layout.{Written, doseBytes, bodyOf}
 use Rattle.layout.specs.declared.Head.{Head}
 use Rattle.writer.specs.declared.Place.{Place}
 use Rattle.writer.specs.Holds.{Holds}
+use Rattle.split.specs.Parts.{isOfPart}
 
 -- entry c of the list is the class of the period at block c, for those ahead of block b
 pub record ClassedTo (p : List ℕ) (b : ℕ) (cs : List ℕ) : Type 0 where
@@ -19,6 +25,13 @@ pub record ClassedTo (p : List ℕ) (b : ℕ) (cs : List ℕ) : Type 0 where
 -- the class that has doses of the part alone
 abbrev pub ownClass : Bool → ℕ
 ownClass marked = cond marked need fixed
+
+-- the period at block b has other doses too, or none; and no period has
+abbrev pub isOther : Bool → List ℕ → ℕ → Bool
+isOther marked p b = isPeriod p b && not (eqb (classOf p b) (ownClass marked))
+
+unfoldable pub isAlone : Bool → List ℕ → Bool
+isAlone marked p = not (anyBelow (blocksOf p) (isOther marked p))
 
 -- a buffer that held `old` at first has room for these periods
 abbrev pub HasRoom : List ℕ → List Written → Type 0
@@ -38,3 +51,11 @@ abbrev pub AddsDoses : List Dose → Place → List ℕ → Place → List ℕ �
 AddsDoses ds at out at2 out2 =
     (h : Head) (ws : List Written) (w : Written) (old : List ℕ) → HasRoom old (ws ++ (withDoses w ds ∷ [])) →
     Holds h (ws ++ (w ∷ [])) old at out → Holds h (ws ++ (withDoses w ds ∷ [])) old at2 out2
+
+-- the doses of the part among those of block r from dose `from` to the nth
+unfoldable pub keptIn : Bool → List ℕ → ℕ → ℕ → List Dose
+keptIn marked r from n = keep (isOfPart marked) (listBelow (n - from) (λ k. doseOf (recordAt r (from + k))))
+
+-- the records of ds, put behind m others into the block that begins at `block`
+abbrev pub recordsPut : List ℕ → ℕ → ℕ → List Dose → List ℕ
+recordsPut out block m ds = put out (block + 24 + m * 24) (joinOver doseBytes ds)

@@ -1,7 +1,8 @@
 // Split, by document 01: a plan into its fixed and its as-needed part.
+mod copying;
 mod part;
 
-use part::classes_of;
+use part::put_classes;
 use part::write_part;
 use refusal::Refusal;
 use verdict::Answer;
@@ -11,7 +12,10 @@ ghost use mathlib.Core.Path.{_≡_};
 ghost use mathlib.Core.Bool.{true, false};
 ghost use mathlib.Core.List.{List};
 ghost use Prim.Native.Nat.{_≤_};
+ghost use Rattle.form.specs.Form.{formOf};
+ghost use Rattle.form.specs.declared.Form.the-variants.{Right};
 ghost use Rattle.plan.specs.Periods.{blocksOf};
+ghost use Rattle.verdict.specs.Verdict.{planLimit};
 ghost use Rattle.split.specs.Parts.{partOf, partBytes};
 ghost use Rattle.split.specs.Adding.{HasRoom};
 ghost use Rattle.split.specs.Split.{over, lengthsOf, splitOf, leftBy};
@@ -32,12 +36,13 @@ pub const ROOM: usize = 32768;
 
 // Both parts.
 fn write_parts(plan: &[u8], fixed: &mut [u8], need: &mut [u8]) -> Lengths
-    requires { ⌜ (blocksOf (now plan) ≤ 32) × HasRoom (now fixed) (partOf false (now plan)) × HasRoom (now need) (partOf true (now plan)) ⌝ }
+    requires { ⌜ (blocksOf (now plan) ≤ 32) × (formOf planLimit (now plan) ≡ Right) × HasRoom (now fixed) (partOf false (now plan)) × HasRoom (now need) (partOf true (now plan)) ⌝ }
     ensures { λ r. ⌜ r ≡ lengthsOf (now (plan .entry)) ⌝ }
     ensures { λ _. ⌜ now (fixed .exit) ≡ over (partBytes false (now (plan .entry))) (now (fixed .entry)) ⌝ }
     ensures { λ _. ⌜ now (need .exit) ≡ over (partBytes true (now (plan .entry))) (now (need .entry)) ⌝ }
 {
-    let cs = classes_of(plan);
+    let mut cs = [0u8; 32];
+    put_classes(&mut cs, plan);
     let unmarked = write_part(fixed, plan, &cs, false);
     let marked = write_part(need, plan, &cs, true);
     Lengths {

@@ -1,18 +1,18 @@
 // One part of an accepted plan, written period by period. The classes of all periods are worked out once and lent as `cs`:
 // entry b is that of the period at block b.
+use crate::copying::add_kept;
+use block::put_bytes;
 use layout::Header;
 use layout::head_of;
 use layout::header_at;
 use plan::block_of;
 use plan::class_of;
-use plan::dose_in;
+use plan::doses_here;
 use plan::doses_of;
 use plan::first_of;
-use plan::is_marked;
 use plan::is_period;
 use plan::last_of;
 use writer::Place;
-use writer::add_dose;
 use writer::add_period;
 use writer::begin;
 use writer::finish;
@@ -21,39 +21,37 @@ ghost use mathlib.Core.List.{[], _∷_};
 ghost use Prim.Native.Nat.{_+_, _-_, _≤_, _<_, max, min};
 ghost use lib.ListN.{length};
 ghost use Rattle.below.specs.Lists.{keep};
+ghost use Rattle.form.specs.Form.{formOf};
+ghost use Rattle.form.specs.declared.Form.the-variants.{Right};
 ghost use Rattle.plan.specs.Fields.{firstOf};
-ghost use Rattle.plan.specs.Periods.{blocksOf, blockAt, doseIn};
+ghost use Rattle.plan.specs.Periods.{blocksOf, blockAt};
 ghost use Rattle.layout.specs.Reading.{dosesAt};
 ghost use Rattle.verdict.specs.Ready.{Classed};
+ghost use Rattle.verdict.specs.Verdict.{planLimit};
 ghost use Rattle.split.specs.Parts.{isDosedIn, isOfPart, dosedPeriod, nextDosed, runFirst, sharesRun, shared, sharedBy, sharedIn, behind, broughtBy, partOf, partBytes};
-ghost use Rattle.split.specs.Adding.{ClassedTo, ownClass, HasRoom, Adds, AddsDoses};
+ghost use Rattle.split.specs.Adding.{ClassedTo, ownClass, isOther, isAlone, HasRoom, Adds, AddsDoses};
 ghost use Rattle.split.specs.Split.{over};
 
-// The classes with that of the period at block b, if one begins there.
-fn with_class(cs: [u8; 32], plan: &[u8], b: u8) -> [u8; 32]
-    requires { ⌜ (b < 32) × ClassedTo (now plan) b cs ⌝ }
-    ensures { λ r. ⌜ ClassedTo (now (plan .entry)) (b + 1) r ⌝ }
+// Puts the class of the period at block b, if one begins there.
+fn put_class(cs: &mut [u8; 32], plan: &[u8], b: u8)
+    requires { ⌜ (b < 32) × ClassedTo (now plan) b (now cs) ⌝ }
+    ensures { λ _. ⌜ ClassedTo (now (plan .entry)) (b + 1) (now (cs .exit)) ⌝ }
 {
     if !is_period(plan, b) {
-        return cs;
+        return;
     }
-    let mut next = cs;
-    next[b as usize] = class_of(plan, b);
-    next
+    cs[b as usize] = class_of(plan, b);
 }
 
-// The classes of all periods.
-pub(crate) fn classes_of(plan: &[u8]) -> [u8; 32]
-    requires { ⌜ blocksOf (now plan) ≤ 32 ⌝ }
-    ensures { λ r. ⌜ Classed (now (plan .entry)) r ⌝ }
+// The classes of all periods. They stay in the array that is lent: to hand it on by value would wait for the bytes just stored.
+pub(crate) fn put_classes(cs: &mut [u8; 32], plan: &[u8])
+    requires { ⌜ (blocksOf (now plan) ≤ 32) × (length (now cs) ≡ 32) ⌝ }
+    ensures { λ _. ⌜ Classed (now (plan .entry)) (now (cs .exit)) ⌝ }
 {
     let n = (plan.len() / 512) as u8;
-    let mut cs = [0u8; 32];
     for b in 0..n {
-        let next = with_class(cs, plan, b);
-        cs = next;
+        put_class(&mut *cs, plan, b);
     }
-    cs
 }
 
 // The class that has doses of the part alone: fixed or need.
@@ -88,25 +86,15 @@ fn next_dosed(plan: &[u8], cs: &[u8; 32], marked: bool, b: u8) -> u8
     n
 }
 
-// Dose j of the period, if it is one of the part's.
-fn add_dose_of(out: &mut [u8], at: Place, plan: &[u8], b: u8, j: u16, marked: bool) -> Place
-    ensures { λ r. ⌜ AddsDoses (keep (isOfPart marked) (doseIn (now (plan .entry)) b j ∷ [])) at (now (out .entry)) r (now (out .exit)) ⌝ }
-{
-    let d = dose_in(plan, b, j);
-    if !(is_marked(d) == marked) {
-        return at;
-    }
-    add_dose(out, at, d)
-}
-
-// All its doses of the part.
+// All doses of the period that are the part's, block by block.
 fn add_doses(out: &mut [u8], at: Place, plan: &[u8], b: u8, marked: bool) -> Place
     ensures { λ r. ⌜ AddsDoses (keep (isOfPart marked) (dosesAt (now (plan .entry)) b)) at (now (out .entry)) r (now (out .exit)) ⌝ }
 {
     let n = doses_of(plan, b);
     let mut place = at;
-    for j in 0..n {
-        let next = add_dose_of(&mut *out, place, plan, b, j, marked);
+    for i in 0..((n + 19) / 20) {
+        let block = block_of(plan, (b as u16) + i);
+        let next = add_kept(&mut *out, place, block, doses_here(n, i), marked);
         place = next;
     }
     place
@@ -235,8 +223,32 @@ fn add_brought(out: &mut [u8], at: Place, plan: &[u8], cs: &[u8; 32], marked: bo
     add_behind(out, place, plan, cs, marked, b)
 }
 
-// Writes a part, and gives its length.
-pub(crate) fn write_part(out: &mut [u8], plan: &[u8], cs: &[u8; 32], marked: bool) -> u32
+// Is the period at block b, if one begins there, of another class than the part's own?
+fn is_other(plan: &[u8], cs: &[u8; 32], marked: bool, b: u8) -> bool
+    requires { ⌜ Classed (now plan) (now cs) ⌝ }
+    requires { ⌜ b < blocksOf (now plan) ⌝ }
+    ensures { λ r. ⌜ r ≡ isOther marked (now (plan .entry)) b ⌝ }
+{
+    let class = cs[b as usize];
+    is_period(plan, b) & !(class == own_class(marked))
+}
+
+// Has every period doses of the part alone?
+fn is_alone(plan: &[u8], cs: &[u8; 32], marked: bool) -> bool
+    requires { ⌜ Classed (now plan) (now cs) ⌝ }
+    ensures { λ r. ⌜ r ≡ isAlone marked (now (plan .entry)) ⌝ }
+{
+    let n = (plan.len() / 512) as u8;
+    for b in 0..n {
+        if is_other(plan, cs, marked, b) {
+            return false;
+        }
+    }
+    true
+}
+
+// Writes a part period by period, and gives its length.
+fn write_periods(out: &mut [u8], plan: &[u8], cs: &[u8; 32], marked: bool) -> u32
     requires { ⌜ Classed (now plan) (now cs) ⌝ }
     requires { ⌜ HasRoom (now out) (partOf marked (now plan)) ⌝ }
     ensures { λ r. ⌜ (now (out .exit) ≡ over (partBytes marked (now (plan .entry))) (now (out .entry))) × (r ≡ length (partBytes marked (now (plan .entry)))) ⌝ }
@@ -248,4 +260,18 @@ pub(crate) fn write_part(out: &mut [u8], plan: &[u8], cs: &[u8; 32], marked: boo
         at = next;
     }
     finish(out, at)
+}
+
+// Writes a part, and gives its length. A plan that has doses of the part alone and no empty period, as most have, is the part
+// already, sums and all (proofs/Alone.antt).
+pub(crate) fn write_part(out: &mut [u8], plan: &[u8], cs: &[u8; 32], marked: bool) -> u32
+    requires { ⌜ Classed (now plan) (now cs) ⌝ }
+    requires { ⌜ (formOf planLimit (now plan) ≡ Right) × HasRoom (now out) (partOf marked (now plan)) ⌝ }
+    ensures { λ r. ⌜ (now (out .exit) ≡ over (partBytes marked (now (plan .entry))) (now (out .entry))) × (r ≡ length (partBytes marked (now (plan .entry)))) ⌝ }
+{
+    if is_alone(plan, cs, marked) {
+        put_bytes(out, 0, plan);
+        return plan.len() as u32;
+    }
+    write_periods(out, plan, cs, marked)
 }

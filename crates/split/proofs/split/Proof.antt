@@ -5,7 +5,7 @@ use lib.ListN.{length}
 use borrow.Author.Tests.{ltb-false}
 use Rattle.below.proofs.Tests.{or-neither}
 use Rattle.block.proofs.Numbers.{AreBytes}
-use Rattle.split.proofs.Kept.{accepted-kept, kept-few}
+use Rattle.split.proofs.Kept.{accepted-kept, kept-right, kept-few}
 use Rattle.split.proofs.Room.{few-blocks}
 use mathlib.Core.Path.{ap, sym, _∙_}
 use Rattle.verdict.specs.Verdict.{refusalOf}
@@ -44,6 +44,7 @@ write-parts-requires c κs = let s = c .before .before .before .before .before .
     let bytes : AreBytes (s .plan .now) = λ i. omega (arith, c .before .before .before .before .before .before .before .before .shared-slice-known .given i) in
     let large = or-neither (ltb (length (s .fixed .now)) 32768) (ltb (length (s .need .now)) 32768) (c .before .before .if1 .left) in (
       kept-few kept,
+      kept-right kept,
       (ltb-false _ _ (large .0), few-blocks false (s .plan .now) kept bytes),
       (ltb-false _ _ (large .1), few-blocks true (s .plan .now) kept bytes),
     )

@@ -2,8 +2,8 @@ use borrow.Author.Needs.{needs}
 use Rattle.split.proofs.write_parts.Statement.{statement}
 use Rattle.split.proofs.write_parts.Tie as tie
 
-classes-of-requires : tie.Need-classes-of-requires
-classes-of-requires c κs = search needs
+put-classes-requires : tie.Need-put-classes-requires
+put-classes-requires c κs = search needs
 
 write-part-requires : tie.Need-write-part-requires
 write-part-requires c κs = search needs
@@ -24,7 +24,7 @@ pub write-parts-spec : {M : Type 1} → statement M
 write-parts-spec =
     tie.close
     (tie.spec
-    classes-of-requires
+    put-classes-requires
     write-part-requires
     write-part-requires-2
     same-length

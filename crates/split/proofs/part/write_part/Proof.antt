@@ -1,84 +1,49 @@
-use mathlib.Core.Path.{_≡_, sym, _∙_}
-use Prim.Native.Nat.{_-_, _≤_}
-use mathlib.Core.List.{[]}
+use mathlib.Core.Path.{sym, _∙_}
 use native.Mathlib.Omega.{arith}
-use lib.ListN.{length}
-use Rattle.below.specs.Lists.{joinBelow}
-use Rattle.below.proofs.Lists.{join-zero, join-more}
-use Rattle.plan.specs.Periods.{blocksOf}
-use Rattle.writer.proofs.Holding.{holds-begin, holds-finish}
-use Rattle.split.specs.Parts.{broughtBy, partOf, partBytes}
-use Rattle.split.specs.Adding.{Adds}
-use Rattle.split.specs.Split.{over}
-use Rattle.split.proofs.Adding.{adds-none, adds-both}
+use Rattle.block.proofs.Numbers.{AreBytes}
+use Rattle.split.proofs.Alone.{alone-put}
 use borrow.Author.Needs.{needs}
 use Rattle.split.proofs.part.write_part.Statement.{statement}
 use Rattle.split.proofs.part.write_part.Tie as tie
 
-abbrev Inv-loop : tie.InvT-loop
-Inv-loop out₀ plan cs marked n at₀ b₀ out at b = (b ≤ n) × (n ≡ blocksOf plan) × (length out ≡ length out₀) × Adds (joinBelow b (broughtBy marked plan)) at₀ out₀ at out
+is-alone-requires : tie.Need-is-alone-requires
+is-alone-requires c κs = search needs
 
-abbrev μ-loop : tie.MeasureT-loop
-μ-loop out₀ plan cs marked n at₀ b₀ out at b = n - b
+put-bytes-requires : tie.Need-put-bytes-requires
+put-bytes-requires c κs = search needs
 
-cast-n : tie.Need-cast-n Inv-loop μ-loop
-cast-n c = search needs
+cast-result : tie.Need-cast-result
+cast-result c = search needs
 
-head-of-requires : tie.Need-head-of-requires Inv-loop μ-loop
-head-of-requires c κs = search needs
-
-begin-requires : tie.Need-begin-requires Inv-loop μ-loop
-begin-requires c κs = search needs
-
-loop-holds : tie.Need-loop-holds Inv-loop μ-loop
-loop-holds c = (search needs, search needs, search needs, rw join-zero adds-none)
-
-add-brought-requires : tie.Need-add-brought-requires Inv-loop μ-loop
-add-brought-requires c κs = search needs
-
-add-b : tie.Need-add-b Inv-loop μ-loop
-add-b c = search needs
-
-loop-less : tie.Need-loop-less Inv-loop μ-loop
-loop-less c = search needs
-
-loop-again : tie.Need-loop-again Inv-loop μ-loop
-loop-again c = (search needs, search needs, search needs, rw join-more (adds-both (c .before .before .before .before .before .loop .inv .3) (c .before .before .add-brought .ensures)))
-
-finish-requires : tie.Need-finish-requires Inv-loop μ-loop
-finish-requires c κs = search needs
-
-same-length : tie.Need-same-length Inv-loop μ-loop
+same-length : tie.Need-same-length
 same-length c = search needs
 
-returns : tie.Need-returns Inv-loop μ-loop
-unfolding over partBytes partOf
-returns c = let a = c .before .before .before .before .before .before .before .before .before .before .before .before .before .args in
-    let old = a .out .now in
-    let l = c .before .before .before .before .before .loop in
-    let g = c .before .before .before .before .before .before .before .before .begin in
-    let h = c .before .before .before .before .before .before .before .before .before .head-of .result in
-    let room = c .before .before .before .before .before .before .before .before .before .before .before .before .before .pre .1 in
-    let e : l .b ≡ blocksOf (a .plan .now) = omega arith in
-    let all = rw e at (l .inv .3) in
-    let started = rw (sym (g .ensures .0), sym (g .ensures .1)) at (holds-begin h old (omega (arith, room .0))) in
-    let ends = holds-finish h (partOf (a .marked) (a .plan .now)) old (l .at) (l .out) (all h [] old room started) in
-    rw (← c .before .before .before .before .before .before .before .before .before .head-of .ensures) (c .before .before .finish .ensures .0 ∙ ends .0, c .before .before .finish .ensures .1 ∙ ends .1)
+returns : tie.Need-returns
+returns c = let s = c .before .before .before .before .before .before .before .before in
+    let p = s .args .plan .now in
+    let bytes : AreBytes p = λ i. omega (arith, c .before .before .before .before .before .before .shared-slice-known .given i) in
+    let alone = sym (c .before .before .before .before .before .is-alone .ensures) ∙ c .before .before .before .before .if1 .taken in
+    let same = alone-put (s .args .marked) p alone bytes (s .pre .1 .0) (s .args .out .now) (omega (arith, s .pre .0 .few, s .pre .1 .1 .0)) in
+    (c .before .before .put-bytes .ensures ∙ same .0, same .1)
+
+write-periods-requires : tie.Need-write-periods-requires
+write-periods-requires c κs = search needs
+
+same-length-2 : tie.Need-same-length-2
+same-length-2 c = search needs
+
+returns-2 : tie.Need-returns-2
+returns-2 c = search needs
 
 pub write-part-spec : {M : Type 1} → statement M
 write-part-spec =
     tie.close
     (tie.spec
-    Inv-loop
-    μ-loop
-    cast-n
-    head-of-requires
-    begin-requires
-    loop-holds
-    add-brought-requires
-    add-b
-    loop-less
-    loop-again
-    finish-requires
+    is-alone-requires
+    put-bytes-requires
+    cast-result
     same-length
-    returns)
+    returns
+    write-periods-requires
+    same-length-2
+    returns-2)

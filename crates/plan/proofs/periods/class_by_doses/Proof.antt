@@ -7,17 +7,14 @@ use Rattle.below.proofs.Search.{any-zero, any-more}
 use Rattle.below.specs.Below.{anyBelow}
 use Rattle.plan.specs.Fields.{isMarked}
 use Rattle.plan.specs.Periods.{dosesOf, doseIn, hasUnmarked, hasMarked, classOf}
-use Rattle.plan.proofs.periods.class_of.Statement.{statement}
-use Rattle.plan.proofs.periods.class_of.Tie as tie
+use Rattle.plan.proofs.periods.class_by_doses.Statement.{statement}
+use Rattle.plan.proofs.periods.class_by_doses.Tie as tie
 
 abbrev Inv-loop : tie.InvT-loop
 Inv-loop plan b n unmarked₀ marked₀ j₀ unmarked marked j = (j ≤ n) × (unmarked ≡ anyBelow j (λ k. not (isMarked (doseIn plan b k)))) × (marked ≡ anyBelow j (λ k. isMarked (doseIn plan b k)))
 
 abbrev μ-loop : tie.MeasureT-loop
 μ-loop plan b n unmarked₀ marked₀ j₀ unmarked marked j = n - j
-
-doses-of-requires : tie.Need-doses-of-requires Inv-loop μ-loop
-doses-of-requires c κs = search needs
 
 loop-holds : tie.Need-loop-holds Inv-loop μ-loop
 loop-holds c = (search needs, sym (any-zero _), sym (any-zero _))
@@ -42,17 +39,16 @@ class-by-requires c κs = search needs
 
 returns : tie.Need-returns Inv-loop μ-loop
 unfolding classOf hasUnmarked hasMarked
-returns c = let a = c .before .before .before .before .before .args in
-    let e : c .before .before .loop .j ≡ dosesOf (a .plan .now) (a .b) = omega arith in
+returns c = let a = c .before .before .before .before .args in
+    let e : c .before .before .loop .j ≡ dosesOf (a .plan .now) (a .b) = omega (arith, c .before .before .before .before .pre) in
     (rw (← e) (cc), search needs)
 
-pub class-of-spec : {M : Type 1} → statement M
-class-of-spec =
+pub class-by-doses-spec : {M : Type 1} → statement M
+class-by-doses-spec =
     tie.close
     (tie.spec
     Inv-loop
     μ-loop
-    doses-of-requires
     loop-holds
     dose-in-requires
     is-marked-requires
