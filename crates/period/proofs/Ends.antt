@@ -16,7 +16,7 @@ use Rattle.period.specs.declared.turn.Walk.{Walk}
 use Rattle.period.specs.Doses.{falls, passes, anyDayUnmarked, besideAnyDay, isTimed, isUntimed, twice, bothKinds, doseBreaks, tooMuch}
 use Rattle.period.specs.Twice.{hasTwice, Rising}
 use Rattle.period.specs.Finish.{isPast, isAnyDay, isBoth, roundBy, isTooMuch}
-use Rattle.period.proofs.Counts.{any-count, any-not-count}
+use Rattle.period.proofs.Counts.{any-not-count}
 use Rattle.period.proofs.Walked.{passBreaks, Walked}
 
 -- "or" by its second part
@@ -76,10 +76,10 @@ module _ (limit n : ℕ) (D : ℕ → Dose) (s : Walk) (w : Walked D n s) where
   unfolding hasTwice doseBreaks
   ten = refl
 
-  -- it need not be asked where ranks rise
-  pub not-again : s .again ≡ false → hasTwice D n ≡ false
+  -- where it need not be asked
+  pub not-again : 7 < s .rule → s .again ≡ false → hasTwice D n ≡ false
   unfolding hasTwice
-  not-again e = any-none (λ (j : ℕ). anyBelow j (λ i. twice (D i) (D j))) (w .again e)
+  not-again up e = any-none (λ (j : ℕ). anyBelow j (λ i. twice (D i) (D j))) (w .again up e)
 
   -- a day number has fallen
   pub fallen : s .rule ≡ 7 → anyBelow n (doseBreaks limit 7 D) ≡ true
@@ -88,13 +88,35 @@ module _ (limit n : ℕ) (D : ℕ → Dose) (s : Walk) (w : Walked D n s) where
       let x = any-some (passBreaks D 7) n (rw e at (w .hit (omega arith))) in
       any-hit (doseBreaks limit 7 D) (x .1) (rw (x .2))
 
+  -- one of the first doses is untimed where one was kept
+  some-untimed : (ltb 0 (s .fixed) || ltb 0 (s .need)) ≡ anyBelow n (λ i. isUntimed (D i))
+  some-untimed =
+      let u : ℕ → Bool = λ i. isUntimed (D i) in
+      bool-iff (ltb 0 (s .fixed) || ltb 0 (s .need)) (anyBelow n u)
+      (λ e.
+      ⊎-elim
+      (λ (z : ltb 0 (s .fixed) ≡ true).
+      let l : 0 < s .fixed = ltb-true _ _ z in
+      any-hit u {i = s .fixed - 1} (omega (arith, w .fixed .within)) (w .fixed .here l .0))
+      (λ z.
+      let l : 0 < s .need = ltb-true _ _ z in
+      any-hit u {i = s .need - 1} (omega (arith, w .need .within)) (w .need .here l .0))
+      (or-either (ltb 0 (s .fixed)) (ltb 0 (s .need)) e))
+      (λ e.
+      let x = any-some u n e in
+      ⊎-elim
+      (λ (m : isMarked (D (x .0)) ≡ true).
+      or-second (ltb 0 (s .fixed)) (ltb 0 (s .need)) (lt-ltb 0 (s .need) (omega (arith, w .need .latest (x .0) (x .1) (x .2) m))))
+      (λ m. rw (lt-ltb 0 (s .fixed) (omega (arith, w .fixed .latest (x .0) (x .1) (x .2) m))))
+      (bool-cases (isMarked (D (x .0)))))
+
   -- rule 12
   pub both : anyBelow n (doseBreaks limit 12 D) ≡ isBoth s
   unfolding doseBreaks
   both =
       let u : ℕ → Bool = λ i. isUntimed (D i) in
       let t : ℕ → Bool = λ i. isTimed (D i) in
-      rw (w .untimed, w .timed, ← any-count u n, ← any-count t n)
+      rw (some-untimed, w .timed)
       (bool-iff (anyBelow n (doseBreaks limit 12 D)) (anyBelow n u && anyBelow n t)
       (λ e.
       let x = any-some (doseBreaks limit 12 D) n e in

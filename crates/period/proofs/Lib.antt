@@ -3,7 +3,6 @@
 mod Choice
 mod Limit
 mod Counts
-mod Back
 mod Steps
 mod Lowest
 mod Rank

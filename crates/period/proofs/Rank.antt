@@ -1,36 +1,23 @@
--- Laws of ranks: they rise only where day numbers do not fall, and doses that clash by rule 10 or 11 have one rank. Assumes nothing.
-use Prim.Native.Nat.{_+_, _≤_, min}
-use mathlib.Core.Bool.{Bool, true, false, not, _&&_, _||_, Bool·beq}
-use mathlib.Core.Logic.{⊎-elim}
+-- What rules 10 and 11 say of two doses, and the last dose of a kind. Assumes nothing.
+use Prim.Native.Nat.{ℕ, _+_, _≤_}
+use mathlib.Core.Bool.{Bool, true, false, cond, not, _&&_, _||_, Bool·beq}
+use mathlib.Core.Logic.{_⊎_, inl, inr, ⊎-elim}
 use mathlib.Core.Path.{_≡_, refl, _∙_}
 use native.Mathlib.Omega.{arith}
-use lib.Dec.{eqb, leb}
-use borrow.Author.Tests.{eq-eqb, eqb-true, leb-true, ne-eqb, not-true}
+use lib.Dec.{eqb}
+use borrow.Author.Tests.{eq-eqb, eqb-true, eqb-false, not-true}
 use Rattle.below.proofs.Tests.{bool-cases, and-both, or-either}
 use Rattle.plan.specs.declared.Dose.{Dose}
 use Rattle.plan.specs.Fields.{isMarked}
 use Rattle.period.specs.Doses.{sameDay, isTimed, isUntimed, twice, otherAmounts}
-use Rattle.period.specs.Turn.{keyOf, rankOf, sameAmounts, isLike}
-use Rattle.period.proofs.Choice.{cond-le}
-
-small : (d : Dose) → keyOf d ≤ 65541
-small d =
-    cond-le (eqb (d .kind) 5) {a = min (d .minute + 5) 65540} (omega arith)
-    (⊎-elim
-    (λ (t : isTimed d ≡ true).
-    let k : d .kind ≤ 4 = leb-true _ _ (and-both (leb 1 (d .kind)) (leb (d .kind) 4) t .1) in rw t (omega arith))
-    (λ t. rw t (omega arith))
-    (bool-cases (isTimed d)))
-
-pub rank-day : (d e : Dose) → rankOf d ≤ rankOf e → d .day ≤ e .day
-unfolding rankOf
-rank-day d e h = omega (arith, h, small d, small e)
+use Rattle.period.specs.Turn.{isClock, rankOf, lastAt, sameAmounts, isLike, turned}
+use Rattle.period.specs.declared.turn.Walk.{Walk}
 
 -- what rule 10's test says of two doses
 pub record Twice (d e : Dose) : Type 0 where
   pub day : d .day ≡ e .day
-  pub rank : rankOf d ≡ rankOf e
-  pub timed : isUntimed e ≡ false
+  pub kind : d .kind ≡ e .kind
+  pub way : (isTimed d ≡ true) ⊎ (isClock d ≡ true) × (rankOf d ≡ rankOf e)
 
 pub twice-is : (d e : Dose) → twice d e ≡ true → Twice d e
 unfolding rankOf
@@ -38,27 +25,41 @@ twice-is d e h =
     let x = and-both (sameDay d e && eqb (d .kind) (e .kind)) (isTimed d || (eqb (d .kind) 5 && eqb (d .minute) (e .minute))) h in
     let y = and-both (sameDay d e) (eqb (d .kind) (e .kind)) (x .0) in
     let day : d .day ≡ e .day = eqb-true _ _ (y .0) in
-    let kind : d .kind ≡ e .kind = eqb-true _ _ (y .1) in
+    record {
+      day = day;
+      kind = eqb-true _ _ (y .1);
+      way =
+          ⊎-elim
+          (λ (t : isTimed d ≡ true). inl t)
+          (λ t.
+          let k = and-both (eqb (d .kind) 5) (eqb (d .minute) (e .minute)) t in
+          let minute : d .minute ≡ e .minute = eqb-true _ _ (k .1) in
+          inr (k .0, rw (day, minute)))
+          (or-either (isTimed d) (eqb (d .kind) 5 && eqb (d .minute) (e .minute)) (x .1));
+    }
+
+-- by the kinds 1 to 4
+pub by-kind : (P : ℕ → Type 0) → P 1 → P 2 → P 3 → P 4 → (k : ℕ) → 1 ≤ k → k ≤ 4 → P k
+by-kind P p1 p2 p3 p4 k a b =
     ⊎-elim
-    (λ (t : isTimed d ≡ true).
-    let k = and-both (leb 1 (d .kind)) (leb (d .kind) 4) t in
-    let least : 1 ≤ d .kind = leb-true _ _ (k .0) in
-    let most : d .kind ≤ 4 = leb-true _ _ (k .1) in
-    record {
-      day = day;
-      rank = rw (day, kind, ne-eqb (e .kind) 5 (λ (z : e .kind ≡ 5). omega arith));
-      timed = ne-eqb (e .kind) 0 (λ (z : e .kind ≡ 0). omega arith);
-    })
-    (λ t.
-    let k = and-both (eqb (d .kind) 5) (eqb (d .minute) (e .minute)) t in
-    let clock : d .kind ≡ 5 = eqb-true _ _ (k .0) in
-    let minute : d .minute ≡ e .minute = eqb-true _ _ (k .1) in
-    record {
-      day = day;
-      rank = rw (day, kind, minute);
-      timed = ne-eqb (e .kind) 0 (λ (z : e .kind ≡ 0). omega arith);
-    })
-    (or-either (isTimed d) (eqb (d .kind) 5 && eqb (d .minute) (e .minute)) (x .1))
+    (λ (e : eqb k 1 ≡ true). rw (eqb-true k 1 e) p1)
+    (λ (n1 : eqb k 1 ≡ false).
+    ⊎-elim
+    (λ (e : eqb k 2 ≡ true). rw (eqb-true k 2 e) p2)
+    (λ (n2 : eqb k 2 ≡ false).
+    ⊎-elim
+    (λ (e : eqb k 3 ≡ true). rw (eqb-true k 3 e) p3)
+    (λ (n3 : eqb k 3 ≡ false).
+    let e : k ≡ 4 = omega (arith, eqb-false k 1 n1, eqb-false k 2 n2, eqb-false k 3 n3) in rw e p4)
+    (bool-cases (eqb k 3)))
+    (bool-cases (eqb k 2)))
+    (bool-cases (eqb k 1))
+
+-- the last dose of a kind from 1 to 4, with dose j
+pub last-more : (s : Walk) (d : Dose) (j rule k : ℕ) → 1 ≤ k → k ≤ 4 → lastAt (turned s d j rule) k ≡ cond (eqb (d .kind) k) (j + 1) (lastAt s k)
+unfolding turned
+last-more s d j rule =
+    by-kind (λ k. lastAt (turned s d j rule) k ≡ cond (eqb (d .kind) k) (j + 1) (lastAt s k)) refl refl refl refl
 
 -- the parts of rule 11's test
 pub record Others (d e : Dose) : Type 0 where
@@ -82,16 +83,6 @@ pub other-of : (d e : Dose) → Others d e → otherAmounts d e ≡ true
 other-of d e o =
     let x = and-both (isUntimed d && isUntimed e) (Bool·beq (isMarked d) (isMarked e)) (o .like) in
     rw (eq-eqb (d .day) (e .day) (o .day), x .0, x .1, o .amounts)
-
-pub other-rank : (d e : Dose) → otherAmounts d e ≡ true → rankOf d ≡ rankOf e
-unfolding rankOf
-other-rank d e h =
-    let o = others d e h in
-    let x = and-both (isUntimed d && isUntimed e) (Bool·beq (isMarked d) (isMarked e)) (o .like) in
-    let y = and-both (isUntimed d) (isUntimed e) (x .0) in
-    let kd : d .kind ≡ 0 = eqb-true _ _ (y .0) in
-    let ke : e .kind ≡ 0 = eqb-true _ _ (y .1) in
-    rw (o .day, kd, ke)
 
 -- doses like a third are like each other, and amounts like a third's are alike
 same-mark : (a b c : Bool) → Bool·beq a c ≡ true → Bool·beq b c ≡ true → Bool·beq a b ≡ true

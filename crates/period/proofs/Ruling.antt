@@ -81,7 +81,7 @@ module _ (p : List ℕ) (b : ℕ) where
   pub rises : {n : ℕ} {s : Walk} → Passed p b n s → 7 < s .rule → Rising (doseIn p b) n
   rises {n} {s} done up = ends.rises 0 n (doseIn p b) s (rw (done .kept) (walked (doseIn p b) n)) up
 
-  pub not-again : {n : ℕ} {s : Walk} → Passed p b n s → s .again ≡ false → hasTwice (doseIn p b) n ≡ false
+  pub not-again : {n : ℕ} {s : Walk} → Passed p b n s → 7 < s .rule → s .again ≡ false → hasTwice (doseIn p b) n ≡ false
   not-again {n} {s} done = ends.not-again 0 n (doseIn p b) s (rw (done .kept) (walked (doseIn p b) n))
 
   module _ {limit n : ℕ} {s : Walk} (limits : limit ≡ limitOf (blockAt p b)) (counts : n ≡ dosesOf p b) (done : Passed p b n s) where

@@ -18,6 +18,6 @@ in-block p b q i l =
     let f : (q * 20 + i) % 20 ≡ i = omega arith in
     rw (e, f)
 
-pub one-more : (D : ℕ → Dose) {j rule : ℕ} {s t : Walk} {d : Dose} → s ≡ walkedTo D j → d ≡ D j → rule ≡ nextRule D s d j → t ≡ turned s d j rule → t ≡ walkedTo D (j + 1)
+pub one-more : (D : ℕ → Dose) {j rule : ℕ} {s t : Walk} {d : Dose} → s ≡ walkedTo D j → d ≡ D j → rule ≡ nextRule s d j → t ≡ turned s d j rule → t ≡ walkedTo D (j + 1)
 unfolding walkedTo
 one-more D {j} {rule} {s} {t} {d} e f g h = rw (add-one, h, g, f, e)

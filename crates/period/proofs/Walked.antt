@@ -9,20 +9,31 @@ use native.Mathlib.Numerals.{add-one}
 use native.Mathlib.Omega.{arith}
 use lib.Dec.{eqb, leb, ltb}
 use borrow.Author.Count.{below-more}
-use borrow.Author.Tests.{lt-ltb, le-ltb, ltb-true, ltb-false, leb-false, eqb-true, eqb-false, eq-eqb, ne-eqb, not-true}
-use Rattle.below.specs.Below.{firstBelow, anyBelow, countBelow, sumBelow, largestBelow}
-use Rattle.below.proofs.Search.{NoneBelow, none-more, first-facts, any-hit, any-none, any-not, any-some}
+use borrow.Author.Tests.{lt-ltb, le-ltb, ltb-true, ltb-false, leb-true, leb-false, eqb-true, eqb-false, eq-eqb, ne-eqb, not-true}
+use Rattle.below.specs.Below.{anyBelow, countBelow, sumBelow, largestBelow}
+use Rattle.below.proofs.Search.{NoneBelow, none-more, any-hit, any-none, any-not, any-some, any-zero, any-more}
 use Rattle.below.proofs.Tests.{bool-cases, true-not-false, not-true-false, bool-iff, and-both, both-and, or-neither, le-or-lt}
 use Rattle.below.proofs.Total.{count-zero, count-more, sum-zero, sum-more, largest-zero, largest-more}
 use Rattle.plan.specs.declared.Dose.{Dose}
 use Rattle.plan.specs.Fields.{isMarked}
 use Rattle.period.specs.declared.turn.Walk.{Walk}
 use Rattle.period.specs.Doses.{falls, sameDay, isTimed, isUntimed, twice, otherAmounts, badRange, unmarkedUpper, unmarkedDay}
-use Rattle.period.specs.Turn.{rankOf, fromOf, isCrowded, isAsked, sameAmounts, isLike, otherBack, otherAt, lowest, ruleWith, nextRule, begun, turned, walkedTo}
+use Rattle.period.specs.Turn.{isClock, rankOf, lastAt, fromOf, isCrowded, isAsked, sameAmounts, isLike, isOther, isFixed, isNeed, lowest, ruleWith, nextRule, begun, turned, walkedTo}
 use Rattle.period.proofs.Choice.{cond-le, larger}
 use Rattle.period.proofs.Counts.{count-from}
 use Rattle.period.proofs.Lowest.{testOf, lowest-is, same-tests, no-test}
-use Rattle.period.proofs.Rank.{rank-day, twice-is, Others, others, other-of, other-rank, like-like, amounts-on}
+use Rattle.period.proofs.Rank.{twice-is, last-more, Others, others, other-of, like-like, amounts-on}
+
+-- two marks are one
+same-same : (m : Bool) → Bool·beq m m ≡ true
+same-same true = refl
+same-same false = refl
+
+same-is : (a b : Bool) → Bool·beq a b ≡ true → a ≡ b
+same-is true true e = refl
+same-is false false e = refl
+same-is true false e = sym e
+same-is false true e = e
 
 module _ (D : ℕ → Dose) where
   -- dose j breaks rule k with those ahead of it; rules 8, 10 and 12, and the second half of 7, are asked at the end
@@ -42,20 +53,55 @@ module _ (D : ℕ → Dose) where
     pub most : s .most ≡ largestBelow j (λ i. unmarkedDay (D i))
     pub most-le : s .most ≤ s .day
 
+  -- `last` is the last of the first j doses that has kind 0 and that need mark, its index and 1, and has those amounts
+  pub record Kept (j : ℕ) (mark : Bool) (last low high : ℕ) : Type 0 where
+    pub within : last ≤ j
+    pub here : 0 < last → (isUntimed (D (last - 1)) ≡ true) × (isMarked (D (last - 1)) ≡ mark) × (low ≡ D (last - 1) .low) × (high ≡ D (last - 1) .high)
+    pub latest : (i : ℕ) → i < j → isUntimed (D i) ≡ true → isMarked (D i) ≡ mark → i < last
+
+  kept-none : (mark : Bool) → Kept 0 mark 0 0 0
+  kept-none mark =
+      record {
+        within = omega arith;
+        here = λ l. absurd (omega arith);
+        latest = λ i l. absurd (omega arith);
+      }
+
+  -- dose j is such a dose, or it is not
+  kept-more : (j : ℕ) (mark t : Bool) {last low high : ℕ} → (t ≡ true → (isUntimed (D j) ≡ true) × (isMarked (D j) ≡ mark)) → (t ≡ false → isUntimed (D j) ≡ true → isMarked (D j) ≡ mark → ⊥) → Kept j mark last low high → Kept (j + 1) mark (cond t (j + 1) last) (cond t (D j .low) low) (cond t (D j .high) high)
+  kept-more j mark true {last} h g k =
+      let e : j + 1 - 1 ≡ j = omega arith in
+      record {
+        within = omega arith;
+        here = λ l. rw e (h refl .0, h refl .1, refl, refl);
+        latest = λ i l u m. l;
+      }
+  kept-more j mark false {last} h g k =
+      record {
+        within = omega (arith, k .within);
+        here = k .here;
+        latest =
+            below-more (λ (i : ℕ). isUntimed (D i) ≡ true → isMarked (D i) ≡ mark → i < last) j
+            (k .latest)
+            (λ u m. absurd (g refl u m));
+      }
+
   -- the state s after j doses
   pub record Walked (j : ℕ) (s : Walk) : Type 0 where
     pub from-le : s .from ≤ j
     pub start : j ≡ 0 → s .day ≡ 0
     pub last : 0 < j → s .day ≡ D (j - 1) .day
-    pub tops : (i : ℕ) → i < j → rankOf (D i) ≤ s .top
-    pub untimed : s .untimed ≡ countBelow j (λ i. isUntimed (D i))
-    pub timed : s .timed ≡ countBelow j (λ i. isTimed (D i))
+    pub tops : (i : ℕ) → i < j → isClock (D i) ≡ true → rankOf (D i) ≤ s .top
+    pub kinds : (i : ℕ) → i < j → isTimed (D i) ≡ true → i < lastAt s (D i .kind)
+    pub fixed : Kept j false (s .fixed) (s .«fixed_low») (s .«fixed_high»)
+    pub need : Kept j true (s .need) (s .«need_low») (s .«need_high»)
+    pub timed : s .timed ≡ anyBelow j (λ i. isTimed (D i))
     pub marked : s .marked ≡ countBelow j (λ i. isMarked (D i))
     pub sum : 2048 * s .big + s .small ≡ sumBelow j (λ i. unmarkedUpper (D i))
     pub least : 7 ≤ s .rule
     pub most : s .rule ≤ 14
-    -- while ranks rise no time stands twice
-    pub again : s .again ≡ false → NoneBelow (λ k. anyBelow k (λ i. twice (D i) (D k))) j
+    -- while no day number falls, ranks rise and a day has each kind once, no time stands twice
+    pub again : 7 < s .rule → s .again ≡ false → NoneBelow (λ k. anyBelow k (λ i. twice (D i) (D k))) j
     -- no dose breaks a rule below s .rule, and one breaks that
     pub lower : (k : ℕ) → 7 ≤ k → k < s .rule → NoneBelow (passBreaks k) j
     pub hit : s .rule < 14 → anyBelow j (passBreaks (s .rule)) ≡ true
@@ -68,13 +114,15 @@ module _ (D : ℕ → Dose) where
         start = λ e. refl;
         last = λ l. absurd (omega arith);
         tops = λ i l. absurd (omega arith);
-        untimed = sym (count-zero _);
-        timed = sym (count-zero _);
+        kinds = λ i l. absurd (omega arith);
+        fixed = kept-none false;
+        need = kept-none true;
+        timed = sym (any-zero _);
         marked = sym (count-zero _);
         sum = sym (sum-zero _);
         least = omega arith;
         most = omega arith;
-        again = λ e i l. absurd (omega arith);
+        again = λ u e i l. absurd (omega arith);
         lower = λ k a b i l. absurd (omega arith);
         hit = λ l. absurd (omega arith);
         days = λ l. record {
@@ -158,51 +206,58 @@ module _ (D : ℕ → Dose) where
           (bool-cases (sameAmounts (D i) (D n)))))
           (eq-or-lt-of-le a)
 
-      other-at : 11 < s .rule → otherAt D s (D j) j ≡ anyBelow j (λ i. otherAmounts (D i) (D j))
-      unfolding otherBack
+      -- the last dose like dose j, whatever its mark
+      like-kept : Kept j (isMarked (D j)) (cond (isMarked (D j)) (s .need) (s .fixed)) (cond (isMarked (D j)) (s .«need_low») (s .«fixed_low»)) (cond (isMarked (D j)) (s .«need_high») (s .«fixed_high»))
+      like-kept =
+          ⊎-elim
+          (λ (e : isMarked (D j) ≡ true). rw e (w .need))
+          (λ e. rw e (w .fixed))
+          (bool-cases (isMarked (D j)))
+
+      other-at : 11 < s .rule → isOther s (D j) j ≡ anyBelow j (λ i. otherAmounts (D i) (D j))
       other-at l =
-          let back : ℕ → Bool = λ i. isLike (D (j - 1 - i)) (D j) in
-          let k = firstBelow (j - from) back in
-          let f = first-facts back (j - from) in
-          bool-iff (otherAt D s (D j) j) (anyBelow j (λ i. otherAmounts (D i) (D j)))
+          let mark = isMarked (D j) in
+          let last = cond mark (s .need) (s .fixed) in
+          let low = cond mark (s .«need_low») (s .«fixed_low») in
+          let high = cond mark (s .«need_high») (s .«fixed_high») in
+          let k : Kept j mark last low high = like-kept in
+          let amounts : 0 < last → (eqb low (D j .low) && eqb high (D j .high)) ≡ sameAmounts (D (last - 1)) (D j) =
+          λ h. rw (k .here h .2, k .here h .3) in
+          bool-iff (isOther s (D j) j) (anyBelow j (λ i. otherAmounts (D i) (D j)))
           (λ e.
-          let x = and-both (ltb 11 (s .rule) && isUntimed (D j)) (ltb k (j - from) && not (sameAmounts (D (j - 1 - k)) (D j))) e in
-          let y = and-both (ltb k (j - from)) (not (sameAmounts (D (j - 1 - k)) (D j))) (x .1) in
-          let h : k < j - from = ltb-true _ _ (y .0) in
-          any-hit (λ (i : ℕ). otherAmounts (D i) (D j)) {i = j - 1 - k} (omega arith)
-          (other-of (D (j - 1 - k)) (D j) (record {
-            day = here (j - 1 - k) (omega arith) (omega arith);
-            like = f .here h;
-            amounts = not-true (sameAmounts (D (j - 1 - k)) (D j)) (y .1);
+          let x = and-both (isUntimed (D j) && ltb from last) (not (eqb low (D j .low) && eqb high (D j .high))) e in
+          let y = and-both (isUntimed (D j)) (ltb from last) (x .0) in
+          let h : from < last = ltb-true _ _ (y .1) in
+          let some : 0 < last = omega arith in
+          any-hit (λ (i : ℕ). otherAmounts (D i) (D j)) {i = last - 1} (omega (arith, k .within))
+          (other-of (D (last - 1)) (D j) (record {
+            day = here (last - 1) (omega arith) (omega (arith, k .within));
+            like = rw (k .here some .0, y .0, k .here some .1) (same-same mark);
+            amounts = sym (amounts some) ∙ not-true (eqb low (D j .low) && eqb high (D j .high)) (x .1);
           })))
           (λ e.
           let x = any-some (λ (i : ℕ). otherAmounts (D i) (D j)) j e in
           let i = x .0 in
           let o = others (D i) (D j) (x .2) in
           let a : from ≤ i = same-from i (o .day) in
-          let q : j - 1 - (j - 1 - i) ≡ i = omega (arith, x .1) in
-          let m : back (j - 1 - i) ≡ true = rw q (o .like) in
-          let near : k ≤ j - 1 - i =
-          ⊎-elim
-          (λ (h : k ≤ j - 1 - i). h)
-          (λ h. absurd (true-not-false m (f .before (j - 1 - i) h)))
-          (le-or-lt k (j - 1 - i)) in
-          let h : k < j - from = omega (arith, x .1) in
-          let n = j - 1 - k in
+          let u = and-both (isUntimed (D i) && isUntimed (D j)) (Bool·beq (isMarked (D i)) mark) (o .like) in
+          let v = and-both (isUntimed (D i)) (isUntimed (D j)) (u .0) in
+          let h : i < last = k .latest i (x .1) (v .0) (same-is (isMarked (D i)) mark (u .1)) in
+          let some : 0 < last = omega arith in
+          let n = last - 1 in
+          let m : n < j = omega (arith, k .within) in
           let other : sameAmounts (D n) (D j) ≡ false =
-          still-other l i n (omega (arith, x .1)) (omega arith) o (f .here h) (here n (omega arith) (omega arith)) in
-          let u = and-both (isUntimed (D i) && isUntimed (D j)) (Bool·beq (isMarked (D i)) (isMarked (D j))) (o .like) .0 in
-          both-and (both-and (lt-ltb 11 (s .rule) l) (and-both (isUntimed (D i)) (isUntimed (D j)) u .1))
-          (both-and (lt-ltb k (j - from) h) (ap not other)))
+          still-other l i n (omega arith) m o (rw (k .here some .0, v .1, k .here some .1) (same-same mark)) (here n (omega arith) m) in
+          both-and (both-and (v .1) (lt-ltb from last (omega arith))) (ap not (amounts some ∙ other)))
 
     -- the code's tests are the rules', as far as they count
     abbrev codeBreaks : ℕ → Bool
     codeBreaks k =
-        testOf (ltb (D j .day) (s .day)) (isCrowded s (D j) j) (otherAt D s (D j) j) (badRange (D j)) k
+        testOf (ltb (D j .day) (s .day)) (isCrowded s (D j) j) (isOther s (D j) j) (badRange (D j)) k
 
     agree : (k : ℕ) → k < s .rule → (7 < k → ltb (D j .day) (s .day) ≡ false) → codeBreaks k ≡ passBreaks k j
     agree k l up =
-        same-tests (ltb (D j .day) (s .day)) (isCrowded s (D j) j) (otherAt D s (D j) j) (badRange (D j))
+        same-tests (ltb (D j .day) (s .day)) (isCrowded s (D j) j) (isOther s (D j) j) (badRange (D j))
         (falls D j)
         (leb 99 (countBelow j (λ i. sameDay (D i) (D j))))
         (anyBelow j (λ i. otherAmounts (D i) (D j)))
@@ -221,11 +276,11 @@ module _ (D : ℕ → Dose) where
       pub at : m < s .rule → passBreaks m j ≡ true
 
     -- more was asked
-    asked : Next (ruleWith D s (D j) j)
+    asked : Next (ruleWith s (D j) j)
     unfolding ruleWith
     asked =
-        let m = lowest (ltb (D j .day) (s .day)) (isCrowded s (D j) j) (otherAt D s (D j) j) (badRange (D j)) in
-        let f = lowest-is (ltb (D j .day) (s .day)) (isCrowded s (D j) j) (otherAt D s (D j) j) (badRange (D j)) in
+        let m = lowest (ltb (D j .day) (s .day)) (isCrowded s (D j) j) (isOther s (D j) j) (badRange (D j)) in
+        let f = lowest-is (ltb (D j .day) (s .day)) (isCrowded s (D j) j) (isOther s (D j) j) (badRange (D j)) in
         ⊎-elim
         (λ (t : ltb m (s .rule) ≡ true).
         let l : m < s .rule = ltb-true _ _ t in
@@ -245,32 +300,20 @@ module _ (D : ℕ → Dose) where
         }))
         (bool-cases (ltb m (s .rule)))
 
-    -- nothing more was to be asked
+    -- none of the tests holds
     plain : isAsked s (D j) j ≡ false → (k : ℕ) → k < s .rule → passBreaks k j ≡ false
     plain a k l =
-        let x = or-neither (leb (rankOf (D j)) (s .top) || isCrowded s (D j) j) (badRange (D j)) a in
-        let y = or-neither (leb (rankOf (D j)) (s .top)) (isCrowded s (D j) j) (x .0) in
-        let high : s .top < rankOf (D j) = leb-false _ _ (y .0) in
-        let up : ltb (D j .day) (s .day) ≡ false =
-        le-ltb (D j .day) (s .day)
-        (⊎-elim
-        (λ (h : j ≤ 0). omega (arith, w .start (let z : j ≡ 0 = omega arith in z)))
-        (λ h.
-        omega (arith, w .last h, rank-day (D (j - 1)) (D j) (omega (arith, w .tops (j - 1) (omega arith)))))
-        (le-or-lt j 0)) in
-        no-test (falls D j)
-        (leb 99 (countBelow j (λ i. sameDay (D i) (D j))))
-        (anyBelow j (λ i. otherAmounts (D i) (D j)))
-        (badRange (D j))
-        k
-        (λ e. falls-is ∙ up)
-        (λ e. sym (crowded-is up (w .days (omega arith))) ∙ y .1)
-        (λ e.
-        any-none (λ (i : ℕ). otherAmounts (D i) (D j)) (λ i m.
-        not-true-false (otherAmounts (D i) (D j)) (λ z. omega (arith, other-rank (D i) (D j) z, w .tops i m))))
+        let x = or-neither (ltb (D j .day) (s .day) || isCrowded s (D j) j || isOther s (D j) j) (badRange (D j)) a in
+        let y = or-neither (ltb (D j .day) (s .day) || isCrowded s (D j) j) (isOther s (D j) j) (x .0) in
+        let z = or-neither (ltb (D j .day) (s .day)) (isCrowded s (D j) j) (y .0) in
+        sym (agree k l (λ e. z .0)) ∙
+        no-test (ltb (D j .day) (s .day)) (isCrowded s (D j) j) (isOther s (D j) j) (badRange (D j)) k
+        (λ e. z .0)
+        (λ e. z .1)
+        (λ e. y .1)
         (λ e. x .1)
 
-    next-is : Next (nextRule D s (D j) j)
+    next-is : Next (nextRule s (D j) j)
     unfolding nextRule
     next-is =
         ⊎-elim
@@ -302,39 +345,82 @@ module _ (D : ℕ → Dose) where
           most-le = cond-le (isMarked (D j)) (omega (arith, t .most-le)) (omega arith);
         }
 
-    -- dose j has a higher rank than those ahead of it, or no time
-    alone : (not (isUntimed (D j)) && leb (rankOf (D j)) (s .top)) ≡ false → anyBelow j (λ i. twice (D i) (D j)) ≡ false
-    alone e =
+    -- dose j is the first of its day of its kind, or a clock dose with a higher rank than those ahead of it, or has no time
+    alone : ltb (D j .day) (s .day) ≡ false → Days j s → (isClock (D j) && leb (rankOf (D j)) (s .top)) ≡ false → ltb (fromOf s (D j) j) (lastAt s (D j .kind)) ≡ false → anyBelow j (λ i. twice (D i) (D j)) ≡ false
+    alone up t a b =
         any-none (λ (i : ℕ). twice (D i) (D j)) (λ i m.
         not-true-false (twice (D i) (D j)) (λ z.
         let y = twice-is (D i) (D j) z in
-        let high : s .top < rankOf (D j) = leb-false _ _ (rw (y .timed) at e) in
-        omega (arith, y .rank, w .tops i m)))
+        ⊎-elim
+        (λ (k : isTimed (D i) ≡ true).
+        let low : from up t ≤ i = same-from up t i (y .day) in
+        let high : i < lastAt s (D j .kind) = rw (y .kind) at (w .kinds i m k) in
+        let none : lastAt s (D j .kind) ≤ from up t = ltb-false _ _ b in
+        omega (arith, low, high, none))
+        (λ (k : (isClock (D i) ≡ true) × (rankOf (D i) ≡ rankOf (D j))).
+        let clock : isClock (D j) ≡ true = rw (y .kind) at (k .0) in
+        let high : s .top < rankOf (D j) = leb-false _ _ (rw clock at a) in
+        omega (arith, k .1, w .tops i m (k .0)))
+        (y .way)))
+
+    -- the largest rank with dose j
+    topped : (t : Bool) → (s .top ≤ cond (t && ltb (s .top) (rankOf (D j))) (rankOf (D j)) (s .top)) × (t ≡ true → rankOf (D j) ≤ cond (t && ltb (s .top) (rankOf (D j))) (rankOf (D j)) (s .top))
+    topped true = let top = larger (rankOf (D j)) (s .top) in (top .1, λ f. top .0)
+    topped false = (omega arith, λ f. absurd (true-not-false f refl))
+
+    -- the last dose of each kind with dose j
+    kinds-on : (m i : ℕ) → i < j + 1 → isTimed (D i) ≡ true → i < lastAt (turned s (D j) j m) (D i .kind)
+    kinds-on m =
+        let last : (i : ℕ) → isTimed (D i) ≡ true → lastAt (turned s (D j) j m) (D i .kind) ≡ cond (eqb (D j .kind) (D i .kind)) (j + 1) (lastAt s (D i .kind)) =
+        λ i h.
+        let x = and-both (leb 1 (D i .kind)) (leb (D i .kind) 4) h in
+        last-more s (D j) j m (D i .kind) (leb-true _ _ (x .0)) (leb-true _ _ (x .1)) in
+        below-more (λ (i : ℕ). isTimed (D i) ≡ true → i < lastAt (turned s (D j) j m) (D i .kind)) j
+        (λ i l h.
+        rw (last i h)
+        (⊎-elim
+        (λ (e : eqb (D j .kind) (D i .kind) ≡ true). rw e (omega arith))
+        (λ e. rw e (w .kinds i l h))
+        (bool-cases (eqb (D j .kind) (D i .kind)))))
+        (λ h. rw (last j h, eq-eqb (D j .kind) (D j .kind) refl) (omega arith))
 
     -- one dose more
-    pub goes-on : Walked (j + 1) (turned s (D j) j (nextRule D s (D j) j))
+    pub goes-on : Walked (j + 1) (turned s (D j) j (nextRule s (D j) j))
     unfolding turned
     goes-on =
-        let m = nextRule D s (D j) j in
+        let m = nextRule s (D j) j in
         let n = next-is in
-        let top = larger (rankOf (D j)) (s .top) in
+        let top = topped (isClock (D j)) in
         record {
           from-le = cond-le (eqb (s .day) (D j .day)) (omega (arith, w .from-le)) (omega arith);
           start = λ e. absurd (omega arith);
           last = λ l. let e : j + 1 - 1 ≡ j = omega arith in rw e;
           tops =
-              below-more (λ (i : ℕ). rankOf (D i) ≤ cond (ltb (s .top) (rankOf (D j))) (rankOf (D j)) (s .top)) j
-              (λ i l. omega (arith, w .tops i l, top .1))
-              (top .0);
-          untimed = rw (count-more (λ (i : ℕ). isUntimed (D i)) j, ← w .untimed);
-          timed = rw (count-more (λ (i : ℕ). isTimed (D i)) j, ← w .timed);
+              below-more (λ (i : ℕ). isClock (D i) ≡ true → rankOf (D i) ≤ cond (isClock (D j) && ltb (s .top) (rankOf (D j))) (rankOf (D j)) (s .top)) j
+              (λ i l u. omega (arith, w .tops i l u, top .0))
+              (top .1);
+          kinds = kinds-on m;
+          fixed =
+              kept-more j false (isFixed (D j))
+              (λ t. let x = and-both (isUntimed (D j)) (not (isMarked (D j))) t in (x .0, not-true (isMarked (D j)) (x .1)))
+              (λ t u m. true-not-false (both-and u (ap not m)) t)
+              (w .fixed);
+          need =
+              kept-more j true (isNeed (D j))
+              (λ t. and-both (isUntimed (D j)) (isMarked (D j)) t)
+              (λ t u m. true-not-false (both-and u m) t)
+              (w .need);
+          timed = rw (any-more (λ (i : ℕ). isTimed (D i)) j, ← w .timed);
           marked = rw (count-more (λ (i : ℕ). isMarked (D i)) j, ← w .marked);
           sum = rw (sum-more (λ (i : ℕ). unmarkedUpper (D i)) j) (omega (arith, w .sum));
           least = n .least;
           most = omega (arith, n .le, w .most);
-          again = λ e.
-              let x = or-neither (s .again) (not (isUntimed (D j)) && leb (rankOf (D j)) (s .top)) e in
-              none-more (λ (k : ℕ). anyBelow k (λ i. twice (D i) (D k))) (w .again (x .0)) (alone (x .1));
+          again = λ u e.
+              let x = or-neither (s .again || (isClock (D j) && leb (rankOf (D j)) (s .top))) (ltb (fromOf s (D j) j) (lastAt s (D j .kind))) e in
+              let y = or-neither (s .again) (isClock (D j) && leb (rankOf (D j)) (s .top)) (x .0) in
+              let up : 7 < s .rule = omega (arith, n .le) in
+              none-more (λ (k : ℕ). anyBelow k (λ i. twice (D i) (D k))) (w .again up (y .0))
+              (alone (sym falls-is ∙ n .below 7 (omega arith) u) (w .days up) (y .1) (x .1));
           lower = λ k a b. none-more (passBreaks k) (w .lower k a (omega (arith, n .le))) (n .below k a b);
           hit = λ l.
               ⊎-elim

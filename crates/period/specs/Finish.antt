@@ -19,7 +19,7 @@ isAnyDay D s n = ltb 0 n && eqb (D 0 .day) 0 && (ltb (s .marked) n || not (eqb (
 
 -- there are doses of kind 0 and of kinds 1 to 4
 abbrev pub isBoth : Walk → Bool
-isBoth s = ltb 0 (s .untimed) && ltb 0 (s .timed)
+isBoth s = (ltb 0 (s .fixed) || ltb 0 (s .need)) && s .timed
 
 -- the limit, or else the last day number of an unmarked dose, which is their largest, at least 1
 abbrev pub roundBy : Walk → ℕ → ℕ

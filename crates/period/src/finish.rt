@@ -25,9 +25,9 @@ fn is_any_day(plan: &[u8], b: u8, s: Walk, n: u16) -> bool
     (0 < n) & (first.day == 0) & ((s.marked < n) | !(s.day == 0))
 }
 
-// Rule 10: it is kept where every dose with a time has a higher rank than those ahead of it.
+// Rule 10: it is kept where no day has one of kinds 1 to 4 twice, and every clock dose has a higher rank than those ahead of it.
 fn is_any_twice(plan: &[u8], b: u8, s: Walk, n: u16) -> bool
-    requires { ⌜ (n ≤ 1515) × (7 < s .rule) × Passed (now plan) b n s ⌝ }
+    requires { ⌜ (7 < s .rule) × Passed (now plan) b n s ⌝ }
     ensures { λ r. ⌜ r ≡ hasTwice (doseIn (now (plan .entry)) b) n ⌝ }
 {
     if s.again {
@@ -40,7 +40,7 @@ fn is_any_twice(plan: &[u8], b: u8, s: Walk, n: u16) -> bool
 fn is_both(s: Walk) -> bool
     ensures { λ r. ⌜ r ≡ isBoth s ⌝ }
 {
-    (0 < s.untimed) & (0 < s.timed)
+    ((0 < s.fixed) | (0 < s.need)) & s.timed
 }
 
 // The days of rule 14: day numbers do not fall, so that the last of an unmarked dose is the largest.

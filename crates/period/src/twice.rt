@@ -1,13 +1,16 @@
 // Rule 10 where the doses of a day do not stand in the order of their times.
 use crate::turn::is_timed;
+use crate::turn::pick64;
+use block::long_at;
 use plan::Dose;
-use plan::dose_in;
+use plan::block_of;
 ghost use mathlib.Core.Path.{_≡_};
-ghost use Prim.Native.Nat.{_≤_, _<_};
-ghost use Rattle.below.specs.Below.{anyBelow};
+ghost use mathlib.Core.Bool.{true, false, cond};
+ghost use Prim.Native.Nat.{_<_, min};
+ghost use lib.Dec.{ltb};
 ghost use Rattle.plan.specs.Periods.{doseIn};
 ghost use Rattle.period.specs.Doses.{twice};
-ghost use Rattle.period.specs.Twice.{hasTwice, Rising, slotOf, twiceWith, twiceFar};
+ghost use Rattle.period.specs.Twice.{twiceAt, hasTwice, Rising, timeOf, slotOf};
 
 // Rule 10 on two doses: need marks are disregarded.
 fn is_twice(d: Dose, e: Dose) -> bool
@@ -16,81 +19,105 @@ fn is_twice(d: Dose, e: Dose) -> bool
     (d.day == e.day) & (d.kind == e.kind) & (is_timed(d) | ((d.kind == 5) & (d.minute == e.minute)))
 }
 
-// Rule 10 on d and the first j doses.
-fn is_twice_back(plan: &[u8], b: u8, j: u16, d: Dose) -> bool
-    ensures { λ r. ⌜ r ≡ anyBelow j (λ i. twice (doseIn (now (plan .entry)) b i) d) ⌝ }
+// Dose j without its amounts, so that eight bytes are read of it.
+fn time_in(plan: &[u8], b: u8, j: u16) -> Dose
+    ensures { λ d. ⌜ d ≡ timeOf (doseIn (now (plan .entry)) b j) ⌝ }
 {
+    let at = 24 + ((j % 20) as usize) * 24;
+    let w = long_at(block_of(plan, (b as u16) + j / 20), at);
+    Dose {
+        day: (w % 65536) as u16,
+        kind: (w / 65536 % 256) as u8,
+        mark: (w / 16777216 % 256) as u8,
+        minute: (w / 4294967296 % 65536) as u16,
+        low: 0,
+        high: 0,
+    }
+}
+
+// Rule 10 on dose j of n and those ahead of it. Day numbers do not fall, so that only those of its day need be asked.
+fn is_twice_back(plan: &[u8], b: u8, j: u16, n: u16) -> bool
+    requires { ⌜ (j < n) × Rising (doseIn (now plan) b) n ⌝ }
+    ensures { λ r. ⌜ r ≡ twiceAt (doseIn (now (plan .entry)) b) j ⌝ }
+{
+    let d = time_in(plan, b, j);
     for i in 0..j {
-        if is_twice(dose_in(plan, b, i), d) {
+        let e = time_in(plan, b, j - 1 - i);
+        if e.day != d.day {
+            return false;
+        }
+        if is_twice(e, d) {
             return true;
         }
     }
     false
 }
 
-// The same for a clock dose whose minute no table of a day's minutes has. Never asked where rule 4 holds.
-fn is_twice_far(plan: &[u8], b: u8, j: u16, d: Dose) -> bool
-    ensures { λ r. ⌜ r ≡ twiceFar (doseIn (now (plan .entry)) b) j d ⌝ }
+// The same, asked only where there is a sign of it.
+fn is_twice_by(plan: &[u8], b: u8, j: u16, n: u16, sign: bool) -> bool
+    requires { ⌜ (j < n) × Rising (doseIn (now plan) b) n ⌝ }
+    requires { ⌜ (sign ≡ false → twiceAt (doseIn (now plan) b) j ≡ false) ⌝ }
+    ensures { λ r. ⌜ r ≡ twiceAt (doseIn (now (plan .entry)) b) j ⌝ }
 {
-    if (d.kind == 5) & !(d.minute < 1440) {
-        return is_twice_back(plan, b, j, d);
+    if sign {
+        return is_twice_back(plan, b, j, n);
     }
     false
 }
 
-// Rule 10 on d and dose i - 1; i is 0 where there is none.
-fn is_twice_with(plan: &[u8], b: u8, i: u16, d: Dose) -> bool
-    ensures { λ r. ⌜ r ≡ twiceWith (doseIn (now (plan .entry)) b) i d ⌝ }
+fn least1439(minute: u64) -> u64
+    ensures { λ r. ⌜ r ≡ min minute 1439 ⌝ }
 {
-    if i == 0 {
-        return false;
-    }
-    is_twice(dose_in(plan, b, i - 1), d)
+    if minute < 1439 { minute } else { 1439 }
 }
 
-// A dose's time as a number below 1445; 0 for no time.
+// A dose's time as a number below 1445: 0 for no time, and one number for all minutes that no day has.
 fn slot_of(d: Dose) -> usize
     ensures { λ r. ⌜ (r ≡ slotOf d) × (r < 1445) ⌝ }
 {
-    if d.kind == 5 {
-        if d.minute < 1440 {
-            return (d.minute as usize) + 5;
-        }
-        return 0;
-    }
-    if is_timed(d) { d.kind as usize } else { 0 }
+    pick64(
+        d.kind == 5,
+        least1439(d.minute as u64) + 5,
+        pick64(d.kind < 5, d.kind as u64, 0),
+    ) as usize
 }
 
-// Has a dose of the first n a time that one ahead of it has on its day? Each asks all of those.
-fn has_twice_few(plan: &[u8], b: u8, n: u16) -> bool
-    ensures { λ r. ⌜ r ≡ hasTwice (doseIn (now (plan .entry)) b) n ⌝ }
+// A day's tag, from 1 to 255: that of the day ahead of it and 1.
+fn next_tag(tag: u8, same: bool) -> u8
+    ensures { λ r. ⌜ (same ≡ true → r ≡ tag) ⌝ }
 {
-    for j in 0..n {
-        if is_twice_back(plan, b, j, dose_in(plan, b, j)) {
-            return true;
-        }
+    if same {
+        return tag;
     }
-    false
+    if tag < 255 { tag + 1 } else { 1 }
 }
 
-// The same. Day numbers do not fall, so that of many doses only the last at a time need be asked; for a few, a table of all
-// times costs more than it saves.
+// What is kept of a dose at the time k: its day's tag, but for those of no time nothing, so that they never find one.
+fn kept_of(k: usize, tag: u8) -> u8
+    ensures { λ r. ⌜ r ≡ cond (ltb 0 k) tag 0 ⌝ }
+{
+    if 0 < k { tag } else { 0 }
+}
+
+// Has a dose of the first n a time that one ahead of it has on its day? The tag of the last dose at each time is kept: where
+// a dose does not find its own there, none of its day has its time.
 pub(crate) fn has_twice(plan: &[u8], b: u8, n: u16) -> bool
-    requires { ⌜ n ≤ 1515 ⌝ }
     requires { ⌜ Rising (doseIn (now plan) b) n ⌝ }
     ensures { λ r. ⌜ r ≡ hasTwice (doseIn (now (plan .entry)) b) n ⌝ }
 {
-    if n < 8 {
-        return has_twice_few(plan, b, n);
-    }
-    let mut last = [0u16; 1445];
+    let mut last = [0u8; 1445];
+    let mut day: u16 = 0;
+    let mut tag: u8 = 1;
     for j in 0..n {
-        let d = dose_in(plan, b, j);
+        let d = time_in(plan, b, j);
         let k = slot_of(d);
-        if is_twice_far(plan, b, j, d) | is_twice_with(plan, b, last[k], d) {
+        let own = next_tag(tag, day == d.day);
+        if is_twice_by(plan, b, j, n, last[k] == own) {
             return true;
         }
-        last[k] = j + 1;
+        last[k] = kept_of(k, own);
+        day = d.day;
+        tag = own;
     }
     false
 }

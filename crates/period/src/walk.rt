@@ -1,60 +1,19 @@
 // The doses of a period, block by block.
 use crate::turn::Walk;
 use crate::turn::begin;
-use crate::turn::from_of;
 use crate::turn::is_asked;
 use crate::turn::is_bad_range;
 use crate::turn::is_crowded;
+use crate::turn::is_other;
 use crate::turn::turn;
 use plan::Dose;
 use plan::block_of;
 use plan::dose_at;
-use plan::dose_in;
 use plan::dose_of;
-use plan::is_marked;
 ghost use mathlib.Core.Path.{_≡_};
 ghost use Prim.Native.Nat.{_+_, _*_, _≤_, _<_, min};
 ghost use Rattle.plan.specs.Fields.{doseOf, recordAt};
-ghost use Rattle.plan.specs.Periods.{doseIn};
-ghost use Rattle.period.specs.Turn.{sameAmounts, isLike, otherBack, otherAt, lowest, ruleWith, nextRule, Passed};
-
-fn same_amounts(d: Dose, e: Dose) -> bool
-    ensures { λ r. ⌜ r ≡ sameAmounts d e ⌝ }
-{
-    (d.low == e.low) & (d.high == e.high)
-}
-
-// Two untimed doses of one need mark.
-fn is_like(d: Dose, e: Dose) -> bool
-    ensures { λ r. ⌜ r ≡ isLike d e ⌝ }
-{
-    (d.kind == 0) & (e.kind == 0) & (is_marked(d) == is_marked(e))
-}
-
-// Rule 11 on d and the nearest dose like it, from dose j - 1 back to `from`: the others like it have that one's amounts.
-fn is_other_back(plan: &[u8], b: u8, from: u16, j: u16, d: Dose) -> bool
-    requires { ⌜ from ≤ j ⌝ }
-    ensures { λ r. ⌜ r ≡ otherBack (doseIn (now (plan .entry)) b) from j d ⌝ }
-{
-    for i in 0..(j - from) {
-        let e = dose_in(plan, b, j - 1 - i);
-        if is_like(e, d) {
-            return !same_amounts(e, d);
-        }
-    }
-    false
-}
-
-// Rule 11 on dose j, where no lower rule and not this one is broken yet.
-fn is_other_at(plan: &[u8], b: u8, s: Walk, d: Dose, j: u16) -> bool
-    requires { ⌜ s .from ≤ j ⌝ }
-    ensures { λ r. ⌜ r ≡ otherAt (doseIn (now (plan .entry)) b) s d j ⌝ }
-{
-    if (11 < s.rule) & (d.kind == 0) {
-        return is_other_back(plan, b, from_of(s, d, j), j, d);
-    }
-    false
-}
+ghost use Rattle.period.specs.Turn.{lowest, ruleWith, nextRule, Passed};
 
 // The lowest broken rule, by the test of each; 14 where none is.
 fn lowest_of(t7: bool, t9: bool, t11: bool, t13: bool) -> u8
@@ -76,26 +35,26 @@ fn lowest_of(t7: bool, t9: bool, t11: bool, t13: bool) -> u8
 }
 
 // The lowest rule broken with dose j, which is d.
-fn rule_with(plan: &[u8], b: u8, s: Walk, d: Dose, j: u16) -> u8
+fn rule_with(s: Walk, d: Dose, j: u16) -> u8
     requires { ⌜ s .from ≤ j ⌝ }
-    ensures { λ r. ⌜ r ≡ ruleWith (doseIn (now (plan .entry)) b) s d j ⌝ }
+    ensures { λ r. ⌜ r ≡ ruleWith s d j ⌝ }
 {
     let rule = lowest_of(
         d.day < s.day,
         is_crowded(s, d, j),
-        is_other_at(plan, b, s, d, j),
+        is_other(s, d, j),
         is_bad_range(d),
     );
     if rule < s.rule { rule } else { s.rule }
 }
 
-// The same, at little cost where nothing is to be asked.
-fn next_rule(plan: &[u8], b: u8, s: Walk, d: Dose, j: u16) -> u8
+// The same, at little cost where nothing is broken.
+fn next_rule(s: Walk, d: Dose, j: u16) -> u8
     requires { ⌜ s .from ≤ j ⌝ }
-    ensures { λ r. ⌜ r ≡ nextRule (doseIn (now (plan .entry)) b) s d j ⌝ }
+    ensures { λ r. ⌜ r ≡ nextRule s d j ⌝ }
 {
     if is_asked(s, d, j) {
-        return rule_with(plan, b, s, d, j);
+        return rule_with(s, d, j);
     }
     s.rule
 }
@@ -124,7 +83,7 @@ fn walk_block(plan: &[u8], b: u8, q: u16, m: u16, s0: Walk) -> Walk
     for i in 0..m {
         let j = q * 20 + i;
         let d = dose_near(r, i as u8);
-        let t = turn(s, d, j, next_rule(plan, b, s, d, j));
+        let t = turn(s, d, j, next_rule(s, d, j));
         s = t;
     }
     s

@@ -43,7 +43,7 @@ returns-4 c =
     (ruling.is-9 (a .plan .now) (a .b) (q .0 .2) (q .0 .0) (q .1) (c .before .before .before .before .before .before .if1 .left) in-time no-8 (c .if4 .taken), search needs)
 
 is-any-twice-requires : tie.Need-is-any-twice-requires
-is-any-twice-requires c κs = let q = c .before .before .before .before .before .before .before .before .before .pre in (q .0 .1, omega arith, q .1)
+is-any-twice-requires c κs = let q = c .before .before .before .before .before .before .before .before .before .pre in (omega arith, q .1)
 
 returns-5 : tie.Need-returns-5
 returns-5 c =
@@ -95,8 +95,6 @@ is-too-much-requires c κs =
     let room = q .1 .room in
     record {
       from = omega (arith, room .from);
-      untimed = omega (arith, room .untimed);
-      timed = omega (arith, room .timed);
       marked = omega (arith, room .marked);
       big = omega (arith, room .big);
       small = omega (arith, room .small);

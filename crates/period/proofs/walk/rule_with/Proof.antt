@@ -7,8 +7,8 @@ use Rattle.period.proofs.walk.rule_with.Tie as tie
 is-crowded-requires : tie.Need-is-crowded-requires
 is-crowded-requires c κs = search needs
 
-is-other-at-requires : tie.Need-is-other-at-requires
-is-other-at-requires c κs = search needs
+is-other-requires : tie.Need-is-other-requires
+is-other-requires c κs = search needs
 
 is-bad-range-requires : tie.Need-is-bad-range-requires
 is-bad-range-requires c κs = search needs
@@ -21,7 +21,7 @@ unfolding ruleWith
 returns c =
     rw (
       ← c .before .before .before .is-bad-range .ensures,
-      ← c .before .before .before .before .is-other-at .ensures,
+      ← c .before .before .before .before .is-other .ensures,
       ← c .before .before .before .before .before .is-crowded .ensures,
       ← c .before .before .lowest-of .ensures,
       lt-ltb _ _ (c .if1 .taken),
@@ -32,7 +32,7 @@ unfolding ruleWith
 returns-2 c =
     rw (
       ← c .before .before .before .is-bad-range .ensures,
-      ← c .before .before .before .before .is-other-at .ensures,
+      ← c .before .before .before .before .is-other .ensures,
       ← c .before .before .before .before .before .is-crowded .ensures,
       ← c .before .before .lowest-of .ensures,
       le-ltb _ _ (c .if1 .left),
@@ -43,7 +43,7 @@ rule-with-spec =
     tie.close
     (tie.spec
     is-crowded-requires
-    is-other-at-requires
+    is-other-requires
     is-bad-range-requires
     lowest-of-requires
     returns
