@@ -1,5 +1,5 @@
 -- A dose record's fields and zero bytes, from its first eight bytes as one number. Assumes nothing.
-use Prim.Native.Nat.{ℕ, _+_, _*_, _/_, _%_, _≤_, _<_}
+use Prim.Native.Nat.{ℕ, _+_, _*_, _/_, _%_, _<_}
 use mathlib.Core.Bool.{Bool, true, false, cond, not, _||_}
 use mathlib.Core.List.{List}
 use mathlib.Core.Logic.{⊎-elim}
@@ -10,7 +10,7 @@ use lib.ListN.{length, take, drop, length-drop}
 use lib.Seq.{length-take-le}
 use borrow.Author.Tests.{eq-eqb, eqb-true, eqb-false, lt-ltb}
 use Rattle.below.proofs.Tests.{bool-cases, bool-iff, or-true, same-or-not}
-use Rattle.block.specs.Bytes.{byteAt, numberAt, halfAt, wordAt, longAt, isZero}
+use Rattle.block.specs.Bytes.{byteAt, numberAt, halfAt, longAt, isZero}
 use Rattle.block.proofs.Numbers.{AreBytes, number-part}
 use Rattle.block.proofs.Zero.{zero-at, at-zero}
 use Rattle.plan.specs.Fields.{doseOf}

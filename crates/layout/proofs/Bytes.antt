@@ -36,13 +36,13 @@ are-bytes {s} h i =
 pub part-bytes : (s : List ℕ) (a n : ℕ) → AreBytes s → AreBytes (take n (drop a s))
 part-bytes s a n h = are-bytes (every-take n (every-drop a (every-byte s h)))
 
-of-number : (w x : ℕ) → Bytes (bytesOf w x)
+pub of-number : (w x : ℕ) → Bytes (bytesOf w x)
 of-number w x = every-byte (bytesOf w x) (bytes-bytes w x)
 
-zero-bytes : (n : ℕ) → Bytes (replicate n 0)
+pub zero-bytes : (n : ℕ) → Bytes (replicate n 0)
 zero-bytes n = every-byte (replicate n 0) (λ i. rw (byte-zeros n i) (omega arith))
 
-put-bytes : (s : List ℕ) (i : ℕ) (bs : List ℕ) → Bytes s → Bytes bs → Bytes (put s i bs)
+pub put-bytes : (s : List ℕ) (i : ℕ) (bs : List ℕ) → Bytes s → Bytes bs → Bytes (put s i bs)
 put-bytes s i bs h g =
     ⊎-elim
     (λ (l : i + length bs ≤ length s).
@@ -50,7 +50,7 @@ put-bytes s i bs h g =
     (λ (l : length s < i + length bs). rw (put-out s i bs l) h)
     (le-or-lt (i + length bs) (length s))
 
-sealed-bytes : (b : List ℕ) → length b ≡ 512 → Bytes b → Bytes (sealed b)
+pub sealed-bytes : (b : List ℕ) → length b ≡ 512 → Bytes b → Bytes (sealed b)
 sealed-bytes b n h =
     rw (sealed-is b n)
     (put-bytes _ 508 _ (put-bytes b 504 _ h (of-number 4 (sumsOf b .first))) (of-number 4 (sumsOf b .second)))

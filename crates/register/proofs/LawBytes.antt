@@ -1,58 +1,33 @@
 -- What the calls leave is bytes again, where the register and the plan were. Assumes nothing.
-use Prim.Native.Nat.{ℕ, _+_, _-_, _*_, _/_, _≤_, _<_}
+use Prim.Native.Nat.{ℕ, _+_, _-_, _*_, _/_, _<_}
 use mathlib.Core.List.{List, [], _∷_, _++_}
-use mathlib.Core.Logic.{⊎-elim}
-use mathlib.Core.Path.{_≡_}
 use native.Mathlib.Omega.{arith}
-use lib.ListN.{length, replicate}
-use Rattle.below.proofs.Tests.{le-or-lt}
-use Rattle.block.proofs.Numbers.{AreBytes, bytes-bytes}
-use Rattle.block.proofs.Put.{put-in, put-out}
-use Rattle.block.proofs.Sealing.{sealed-is}
+use lib.ListN.{length}
+use Rattle.block.proofs.Numbers.{AreBytes}
 use Rattle.block.specs.Bytes.{bytesOf, put}
-use Rattle.block.specs.Sums.{sumsOf, sealed}
-use Rattle.layout.proofs.Blocks.{byte-zeros, length-filled}
-use Rattle.layout.proofs.Bytes.{Bytes, every-byte, are-bytes, part-bytes}
-use Rattle.layout.proofs.Every.{every-append, every-take, every-drop, every-join}
+use Rattle.layout.proofs.Blocks.{length-filled}
+use Rattle.layout.proofs.Bytes.{Bytes, every-byte, are-bytes, part-bytes, of-number, zero-bytes, put-bytes, sealed-bytes}
+use Rattle.layout.proofs.Every.{every-append, every-drop, every-join}
 use Rattle.layout.specs.Fits.{Every.none, Every.more}
 use Rattle.layout.specs.Layout.{filled}
 use Rattle.register.specs.Slots.{slotsOf, slotAt, blocksIn, planIn, controlBytes, slotBytes, withSlot}
 use Rattle.register.specs.Steps.{Call.clear, freeSlot, changed}
 use Rattle.register.proofs.Own.{Whole, empty-whole}
 
-of-number : (w x : ℕ) → Bytes (bytesOf w x)
-of-number w x = every-byte (bytesOf w x) (bytes-bytes w x)
-
-of-zeros : (n : ℕ) → Bytes (replicate n 0)
-of-zeros n = every-byte (replicate n 0) (λ i. rw (byte-zeros n i) (omega arith))
-
-of-put : (s : List ℕ) (i : ℕ) (bs : List ℕ) → Bytes s → Bytes bs → Bytes (put s i bs)
-of-put s i bs h g =
-    ⊎-elim
-    (λ (l : i + length bs ≤ length s).
-    rw (put-in s i bs l) (every-append (every-append (every-take i h) g) (every-drop (i + length bs) h)))
-    (λ (l : length s < i + length bs). rw (put-out s i bs l) h)
-    (le-or-lt (i + length bs) (length s))
-
-of-sealed : (b : List ℕ) → length b ≡ 512 → Bytes b → Bytes (sealed b)
-of-sealed b n h =
-    rw (sealed-is b n)
-    (of-put _ 508 _ (of-put b 504 _ h (of-number 4 (sumsOf b .first))) (of-number 4 (sumsOf b .second)))
-
 of-control : (k a b : ℕ) → k < 256 → Bytes (controlBytes k a b)
 unfolding controlBytes filled bytesOf
 of-control k a b l =
-    of-sealed _ (length-filled (4 ∷ k ∷ 0 ∷ 0 ∷ bytesOf 4 a ++ bytesOf 4 b) (omega arith))
+    sealed-bytes _ (length-filled (4 ∷ k ∷ 0 ∷ 0 ∷ bytesOf 4 a ++ bytesOf 4 b) (omega arith))
     (every-append
     (every-append
     (more {x = 4} (omega arith) (more {x = k} l (more {x = 0} (omega arith) (more {x = 0} (omega arith) (of-number 4 a)))))
     (of-number 4 b))
-    (of-zeros 500))
+    (zero-bytes 500))
 
 of-slot : (p : List ℕ) (a b : ℕ) → Whole p → Bytes p → Bytes (slotBytes p a b)
 unfolding slotBytes
 of-slot p a b w h =
-    every-append (of-control (length p / 512) a b (omega (arith, w .most))) (every-append h (of-zeros (16384 - length p)))
+    every-append (of-control (length p / 512) a b (omega (arith, w .most))) (every-append h (zero-bytes (16384 - length p)))
 
 -- an encoded slot
 pub bytes-slot : (p : List ℕ) (a b : ℕ) → Whole p → AreBytes p → AreBytes (slotBytes p a b)
@@ -60,7 +35,7 @@ bytes-slot p a b w h = are-bytes (of-slot p a b w (every-byte p h))
 
 -- a register with a slot put in its place
 pub bytes-with : (r : List ℕ) (i : ℕ) (s : List ℕ) → AreBytes r → AreBytes s → AreBytes (withSlot r i s)
-bytes-with r i s h g = are-bytes (of-put r (i * 16896) s (every-byte r h) (every-byte s g))
+bytes-with r i s h g = are-bytes (put-bytes r (i * 16896) s (every-byte r h) (every-byte s g))
 
 -- a slot of a register, and its plan
 pub bytes-at : (r : List ℕ) (i : ℕ) → AreBytes r → AreBytes (slotAt r i)

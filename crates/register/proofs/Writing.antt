@@ -1,14 +1,15 @@
 -- The stores into a slot make the bytes that are laid out. Assumes nothing.
 use Prim.Native.Nat.{ℕ, _+_, _-_, _*_, _/_, _≤_, _<_}
 use mathlib.Core.List.{List, [], _∷_, _++_, append-assoc}
-use mathlib.Core.Path.{_≡_, refl, sym, ap, _∙_}
+use mathlib.Core.Path.{_≡_, refl, ap, _∙_}
 use native.Mathlib.Omega.{arith}
 use lib.ListN.{length, take, drop, replicate, length-append, length-replicate, length-drop}
-use lib.Seq.{length-take-le, take-at, take-all}
+use lib.Seq.{length-take-le}
 use borrow.Rule.Slice.PartMut.{putMid}
 use Rattle.block.specs.Bytes.{bytesOf, put}
 use Rattle.block.specs.Sums.{sealed}
-use Rattle.block.proofs.Put.{put-in, length-put, part-put}
+use Rattle.block.proofs.Front.{Front, front-more, front-all}
+use Rattle.block.proofs.Put.{length-put, part-put}
 use Rattle.block.proofs.Sealing.{length-sealed}
 use Rattle.layout.specs.Layout.{filled}
 use Rattle.register.specs.Slots.{slotsOf, controlBytes, slotBytes, withSlot}
@@ -26,24 +27,6 @@ control-filled blocks first second = ap sealed (fields-filled blocks first secon
 pub length-control : (blocks first second : ℕ) → length (controlBytes blocks first second) ≡ 512
 unfolding controlBytes filled bytesOf
 length-control blocks first second = length-sealed (filled (4 ∷ blocks ∷ 0 ∷ 0 ∷ bytesOf 4 first ++ bytesOf 4 second)) refl
-
--- bytes put one run behind the other into s, of n bytes: so far f
-record Front (n : ℕ) (f s : List ℕ) : Type 0 where
-  pub front : take (length f) s ≡ f
-  pub whole : length s ≡ n
-
-front-more : {n : ℕ} {f s : List ℕ} → Front n f s → (a : ℕ) (bs : List ℕ) → length f ≡ a → a + length bs ≤ n → Front n (f ++ bs) (put s a bs)
-front-more {n} {f} {s} o a bs e h =
-    let k : a + length bs ≤ length s = omega (arith, o .whole) in
-    let m : length (take a s ++ bs) ≡ a + length bs = rw length-append (omega (arith, length-take-le a s (omega arith))) in
-    let t : take a s ≡ f = rw (← e) (o .front) in
-    record {
-      front = rw (length-append, e, put-in s a bs k, take-at (take a s ++ bs) (drop (a + length bs) s) (a + length bs) m, t);
-      whole = length-put s a bs ∙ o .whole;
-    }
-
-front-all : {n : ℕ} {f s : List ℕ} → Front n f s → length f ≡ n → s ≡ f
-front-all {n} {f} {s} o e = sym (take-all (length f) s (omega (arith, o .whole))) ∙ o .front
 
 -- a slot, run by run over any slot: the control block's part came back as c, with the plan it is t, and the part behind that
 -- came back as z

@@ -10,7 +10,7 @@ use lib.Dec.{leb, ltb}
 use borrow.Author.Tests.{leb-true, le-leb, lt-leb, ltb-true, lt-ltb, le-ltb}
 use Rattle.below.proofs.Lists.{sum-join}
 use Rattle.below.proofs.Tests.{and-both, le-or-lt}
-use Rattle.below.proofs.Total.{sum-same}
+use Rattle.below.proofs.Total.{sum-same, sum-both}
 use Rattle.below.specs.Below.{sumBelow}
 use Rattle.below.specs.Lists.{sumOver}
 use Rattle.layout.proofs.Standing.{sizeOf}
@@ -20,7 +20,7 @@ use Rattle.plan.specs.Periods.{blocksOf, blockAt}
 use Rattle.split.specs.Parts.{sharesRun, shared, sharedIn}
 use Rattle.split.proofs.Kept.{Kept}
 use Rattle.split.proofs.Standing.{isBlank, blank-apart}
-use Rattle.split.proofs.Totals.{tally, tally-le, sum-mono, sum-both, sum-one}
+use Rattle.split.proofs.Totals.{tally, tally-le, sum-mono, sum-one}
 
 -- the blocks of a period that may be there
 pub maybe-sum : (t : Bool) (w : Written) → sumOver sizeOf (cond t (w ∷ []) []) ≡ cond t (sizeOf w) 0

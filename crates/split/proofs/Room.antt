@@ -13,7 +13,7 @@ use native.Mathlib.Omega.{arith}
 use lib.ListN.{length}
 use Rattle.below.proofs.Lists.{sum-join}
 use Rattle.below.proofs.Tests.{bool-cases}
-use Rattle.below.proofs.Total.{sum-same}
+use Rattle.below.proofs.Total.{sum-same, sum-both}
 use Rattle.below.specs.Below.{sumBelow}
 use Rattle.below.specs.Lists.{joinBelow, keep, sumOver}
 use Rattle.block.proofs.Numbers.{AreBytes}
@@ -29,7 +29,7 @@ use Rattle.split.specs.Parts.{isDosedIn, isOfPart, dosedPeriod, runFirst
 use Rattle.split.proofs.Kept.{Kept, kept-right}
 use Rattle.split.proofs.Pieces.{maybe-sum, beginsBy, blanksBy, pieces-few}
 use Rattle.split.proofs.Standing.{dosed-period, dosed-not-blank, run-is, Past, dosed-days, past-dosed, past-all}
-use Rattle.split.proofs.Totals.{tally, tally-le, sum-mono, sum-both, sum-part}
+use Rattle.split.proofs.Totals.{tally, tally-le, sum-mono, sum-part}
 
 -- how many blocks periods have
 body-sum : (ws : List Written) → length (bodyOf ws) ≡ sumOver sizeOf ws

@@ -20,11 +20,6 @@ module _ (f g : ℕ → ℕ) where
   sum-mono zero h = omega arith
   sum-mono (suc n) h = omega (arith, sum-mono n (λ k l. h k (omega arith)), h n (omega arith))
 
-  pub sum-both : (n : ℕ) → sumBelow n (λ k. f k + g k) ≡ sumBelow n f + sumBelow n g
-  unfolding sumBelow
-  sum-both zero = refl
-  sum-both (suc n) = omega (arith, sum-both n)
-
 -- a test counts as 1 where it holds
 abbrev pub tally : Bool → ℕ
 tally t = cond t 1 0

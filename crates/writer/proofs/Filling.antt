@@ -2,12 +2,13 @@
 -- Assumes nothing.
 use Prim.Native.Nat.{ℕ, _+_, _-_, _≤_}
 use mathlib.Core.List.{List, [], _∷_, _++_}
-use mathlib.Core.Path.{_≡_, refl, sym, _∙_}
+use mathlib.Core.Path.{_≡_, refl}
 use native.Mathlib.Omega.{arith}
-use lib.ListN.{length, take, drop, replicate, length-append, length-replicate, replicate-append-replicate}
-use lib.Seq.{length-take-le, take-at, drop-at, take-all, drop-append-add}
+use lib.ListN.{length, drop, replicate, length-append, length-replicate, replicate-append-replicate}
+use lib.Seq.{take-at, drop-at, drop-append-add}
 use Rattle.block.specs.Bytes.{bytesOf, put}
-use Rattle.block.proofs.Put.{put-in, length-put}
+use Rattle.block.proofs.Front.{Front, front-more, front-all}
+use Rattle.block.proofs.Put.{put-in}
 use Rattle.plan.specs.declared.Dose.{Dose}
 use Rattle.layout.specs.Layout.{filled, headBytes, periodStart, continuationStart, doseBytes}
 use Rattle.layout.specs.declared.Head.{Head}
@@ -26,24 +27,6 @@ period-filled q = refl
 pub continuation-filled : put (replicate 512 0) 0 (3 ∷ 0 ∷ []) ≡ filled (continuationStart 0)
 unfolding put continuationStart filled
 continuation-filled = refl
-
--- bytes put one run behind the other into s, of n bytes: so far f
-record Front (n : ℕ) (f s : List ℕ) : Type 0 where
-  pub front : take (length f) s ≡ f
-  pub whole : length s ≡ n
-
-front-more : {n : ℕ} {f s : List ℕ} → Front n f s → (a : ℕ) (bs : List ℕ) → length f ≡ a → a + length bs ≤ n → Front n (f ++ bs) (put s a bs)
-front-more {n} {f} {s} o a bs e h =
-    let k : a + length bs ≤ length s = omega (arith, o .whole) in
-    let m : length (take a s ++ bs) ≡ a + length bs = rw length-append (omega (arith, length-take-le a s (omega arith))) in
-    let t : take a s ≡ f = rw (← e) (o .front) in
-    record {
-      front = rw (length-append, e, put-in s a bs k, take-at (take a s ++ bs) (drop (a + length bs) s) (a + length bs) m, t);
-      whole = length-put s a bs ∙ o .whole;
-    }
-
-front-all : {n : ℕ} {f s : List ℕ} → Front n f s → length f ≡ n → s ≡ f
-front-all {n} {f} {s} o e = sym (take-all (length f) s (omega (arith, o .whole))) ∙ o .front
 
 -- a dose, field by field over any record
 pub dose-filled : (s : List ℕ) (d : Dose) → length s ≡ 24 → put (put (put (put (put (put s 0 (bytesOf 2 (d .day))) 2 (d .kind ∷ d .mark ∷ [])) 4 (bytesOf 2 (d .minute))) 6 (0 ∷ 0 ∷ [])) 8 (bytesOf 8 (d .low))) 16 (bytesOf 8 (d .high)) ≡ doseBytes d

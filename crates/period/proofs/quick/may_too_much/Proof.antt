@@ -1,6 +1,5 @@
 use borrow.Author.Tests.{eq-eqb, ne-eqb}
 use Rattle.period.proofs.QuickPass.{by-quotient}
-use borrow.Author.Needs.{needs}
 use Rattle.period.proofs.quick.may_too_much.Statement.{statement}
 use Rattle.period.proofs.quick.may_too_much.Tie as tie
 
