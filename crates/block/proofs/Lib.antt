@@ -5,4 +5,5 @@ pub mod Front
 pub mod Sealing
 pub mod Lanes
 pub mod Zero
+pub mod Zeros
 pub mod Pieces

@@ -1,4 +1,5 @@
 -- Document 01, "The block": numbers in bytes, runs of bytes, and a block's two sums.
 pub mod Bytes
+pub mod Zeros
 pub mod Sums
 pub mod Lanes

@@ -7,6 +7,7 @@ pub use read::byte_at;
 pub use read::half_at;
 pub use read::is_zero;
 pub use read::long_at;
+pub use read::longs_at;
 pub use read::word_at;
 pub use summing::seal;
 pub use summing::sums_right;
@@ -23,4 +24,11 @@ pub const SIZE: usize = 512;
 pub struct Sums {
     pub first: u32,
     pub second: u32,
+}
+
+// Three 64-bit numbers.
+pub struct Longs {
+    pub first: u64,
+    pub second: u64,
+    pub third: u64,
 }

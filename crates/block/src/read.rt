@@ -1,8 +1,10 @@
 // Numbers at an offset, least byte first. What lies past the end counts as 0, so that nothing is asked of a caller.
+use crate::Longs;
 ghost use mathlib.Core.Path.{_≡_};
-ghost use Prim.Native.Nat.{_+_, _≤_, _<_, _^_};
+ghost use Prim.Native.Nat.{_+_, _-_, _*_, _≤_, _<_, _^_};
 ghost use lib.ListN.{length};
 ghost use Rattle.block.specs.Bytes.{byteAt, numberAt, halfAt, wordAt, longAt, isZero};
+ghost use Rattle.block.specs.Zeros.{zeroIn};
 
 // A byte, wider: its bound in the contract is what spares the readers below a proof.
 fn wide(x: u8) -> u16
@@ -90,16 +92,109 @@ pub fn long_at(s: &[u8], at: usize) -> u64
             return long_in(s, at);
         }
     }
-    cut_number(s, at, 8)
+    cut_longs(s, at).first
 }
 
-// Is every byte zero? With no early way out, so that the compiled loop is wide.
+// The readers' slow way for three 64-bit numbers, one behind another. Every reader of 64 bits that may meet the end comes here,
+// so that what is compiled in their places is the fast way alone.
+fn cut_longs(s: &[u8], at: usize) -> Longs
+    ensures { λ r. ⌜ (r .first ≡ longAt (now (s .entry)) at) × (r .second ≡ longAt (now (s .entry)) (at + 8)) × (r .third ≡ longAt (now (s .entry)) (at + 16)) ⌝ }
+{
+    if s.len() <= at {
+        return Longs {
+            first: 0,
+            second: 0,
+            third: 0,
+        };
+    }
+    Longs {
+        first: cut_number(s, at, 8),
+        second: cut_number(s, at + 8, 8),
+        third: cut_number(s, at + 16, 8),
+    }
+}
+
+// The three 64-bit numbers from `at` on.
+pub fn longs_at(s: &[u8], at: usize) -> Longs
+    ensures { λ r. ⌜ (r .first ≡ longAt (now (s .entry)) at) × (r .second ≡ longAt (now (s .entry)) (at + 8)) × (r .third ≡ longAt (now (s .entry)) (at + 16)) ⌝ }
+{
+    if 24 <= s.len() {
+        if at <= s.len() - 24 {
+            return Longs {
+                first: long_in(s, at),
+                second: long_in(s, at + 8),
+                third: long_in(s, at + 16),
+            };
+        }
+    }
+    cut_longs(s, at)
+}
+
+// Are the 64 bytes from `at` on zero? Written out, it is compiled to a few wide steps.
+fn is_zero_64(s: &[u8], at: usize) -> bool
+    requires { ⌜ at + 64 ≤ length (now s) ⌝ }
+    ensures { λ r. ⌜ r ≡ zeroIn (now (s .entry)) at 64 ⌝ }
+{
+    (long_in(s, at) == 0)
+        & (long_in(s, at + 8) == 0)
+        & (long_in(s, at + 16) == 0)
+        & (long_in(s, at + 24) == 0)
+        & (long_in(s, at + 32) == 0)
+        & (long_in(s, at + 40) == 0)
+        & (long_in(s, at + 48) == 0)
+        & (long_in(s, at + 56) == 0)
+}
+
+// Are the first n times 64 bytes zero?
+fn are_chunks_zero(s: &[u8], n: usize) -> bool
+    requires { ⌜ n * 64 ≤ length (now s) ⌝ }
+    ensures { λ r. ⌜ r ≡ zeroIn (now (s .entry)) 0 (n * 64) ⌝ }
+{
+    for i in 0..n {
+        if !is_zero_64(s, i * 64) {
+            return false;
+        }
+    }
+    true
+}
+
+// Are the 64-bit numbers a to n - 1 zero?
+fn are_longs_zero(s: &[u8], a: usize, n: usize) -> bool
+    requires { ⌜ (a ≤ n) × (n * 8 ≤ length (now s)) ⌝ }
+    ensures { λ r. ⌜ r ≡ zeroIn (now (s .entry)) (a * 8) ((n - a) * 8) ⌝ }
+{
+    for i in a..n {
+        if long_in(s, i * 8) != 0 {
+            return false;
+        }
+    }
+    true
+}
+
+// Are the bytes from byte a on zero?
+fn are_bytes_zero(s: &[u8], a: usize) -> bool
+    requires { ⌜ a ≤ length (now s) ⌝ }
+    ensures { λ r. ⌜ r ≡ zeroIn (now (s .entry)) a (length (now (s .entry)) - a) ⌝ }
+{
+    for i in a..s.len() {
+        if s[i] != 0 {
+            return false;
+        }
+    }
+    true
+}
+
+// Is every byte zero? Most by 64, the rest by 8, and a few by one.
 pub fn is_zero(s: &[u8]) -> bool
     ensures { λ r. ⌜ r ≡ isZero (now (s .entry)) ⌝ }
 {
-    let mut clean = true;
-    for i in 0..s.len() {
-        clean = clean & (s[i] == 0);
+    let chunks = s.len() / 64;
+    let longs = s.len() / 8;
+    if !are_chunks_zero(s, chunks) {
+        return false;
     }
-    clean
+    if !are_longs_zero(s, chunks * 8, longs) {
+        return false;
+    }
+    are_bytes_zero(s, longs * 8)
 }

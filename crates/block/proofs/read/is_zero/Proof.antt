@@ -1,50 +1,53 @@
-use Prim.Native.Nat.{_≤_, _-_}
-use mathlib.Core.Path.{_≡_, sym}
+use Prim.Native.Nat.{_+_, _-_, _*_, _/_, _≤_, _<_}
+use mathlib.Core.Bool.{true, false}
+use mathlib.Core.Path.{_≡_, sym, _∙_}
 use native.Mathlib.Omega.{arith}
-use lib.Dec.{eqb}
 use lib.ListN.{length}
+use borrow.Author.Tests.{not-true, not-false}
+use Rattle.block.specs.Zeros.{zeroIn}
+use Rattle.block.proofs.Zeros.{zero-next, zero-rest, part-lost}
 use borrow.Author.Needs.{needs}
-use Rattle.below.proofs.Search.{all-zero, all-more}
-use Rattle.below.specs.Below.{allBelow}
-use Rattle.block.specs.Bytes.{byteAt, isZero}
 use Rattle.block.proofs.read.is_zero.Statement.{statement}
 use Rattle.block.proofs.read.is_zero.Tie as tie
 
-abbrev Inv-loop : tie.InvT-loop
-Inv-loop s clean₀ i₀ i-end clean i = (i ≤ length s) × (i-end ≡ length s) × (clean ≡ allBelow i (λ k. eqb (byteAt s k) 0))
+are-chunks-zero-requires : tie.Need-are-chunks-zero-requires
+are-chunks-zero-requires c κs = search needs
 
-abbrev μ-loop : tie.MeasureT-loop
-μ-loop s clean₀ i₀ i-end clean i = length s - i
+returns : tie.Need-returns
+returns c = let s = c .before .before .before .args .s .now in sym (part-lost s 0 (length s / 64 * 64) (omega arith) (sym (c .before .are-chunks-zero .ensures) ∙ not-true _ (c .if1 .taken)))
 
-loop-holds : tie.Need-loop-holds Inv-loop μ-loop
-loop-holds c = (search needs, search needs, sym (all-zero _))
+mul-are-longs-zero : tie.Need-mul-are-longs-zero
+mul-are-longs-zero c = search needs
 
-shared-slice-read-clean : tie.Need-shared-slice-read-clean Inv-loop μ-loop
-shared-slice-read-clean c = search needs
+are-longs-zero-requires : tie.Need-are-longs-zero-requires
+are-longs-zero-requires c κs = search needs
 
-add-i : tie.Need-add-i Inv-loop μ-loop
-add-i c = search needs
+returns-2 : tie.Need-returns-2
+returns-2 c = let s = c .before .before .before .before .before .args .s .now in sym (part-lost s (length s / 64 * 8 * 8) ((length s / 8 - length s / 64 * 8) * 8) (omega arith) (sym (c .before .are-longs-zero .ensures) ∙ not-true _ (c .if2 .taken)))
 
-loop-less : tie.Need-loop-less Inv-loop μ-loop
-loop-less c = search needs
+mul-are-bytes-zero : tie.Need-mul-are-bytes-zero
+mul-are-bytes-zero c = search needs
 
-loop-again : tie.Need-loop-again Inv-loop μ-loop
-loop-again c = (search needs, search needs, rw (all-more, ← c .before .before .loop .inv .2))
+are-bytes-zero-requires : tie.Need-are-bytes-zero-requires
+are-bytes-zero-requires c κs = search needs
 
-returns : tie.Need-returns Inv-loop μ-loop
-unfolding isZero
-returns c = let e : c .before .loop .i ≡ length (c .before .before .args .s .now) = omega arith in
-    rw e at (c .before .loop .inv .2)
+returns-3 : tie.Need-returns-3
+returns-3 c = let s = c .before .before .before .before .before .before .args .s .now in
+    let ahead : zeroIn s 0 (length s / 64 * 64) ≡ true = sym (c .before .before .before .before .are-chunks-zero .ensures) ∙ not-false _ (c .before .before .before .if1 .left) in
+    let longs : zeroIn s (length s / 64 * 8 * 8) ((length s / 8 - length s / 64 * 8) * 8) ≡ true = sym (c .before .before .are-longs-zero .ensures) ∙ not-false _ (c .before .if2 .left) in
+    c .are-bytes-zero .ensures ∙
+    zero-rest s (length s / 8 * 8) (omega arith)
+    (zero-next s 0 (length s / 64 * 64) (length s / 64 * 8 * 8) ((length s / 8 - length s / 64 * 8) * 8) _ (omega arith) (omega arith) ahead longs)
 
 pub is-zero-spec : {M : Type 1} → statement M
 is-zero-spec =
     tie.close
     (tie.spec
-    Inv-loop
-    μ-loop
-    loop-holds
-    shared-slice-read-clean
-    add-i
-    loop-less
-    loop-again
-    returns)
+    are-chunks-zero-requires
+    returns
+    mul-are-longs-zero
+    are-longs-zero-requires
+    returns-2
+    mul-are-bytes-zero
+    are-bytes-zero-requires
+    returns-3)
