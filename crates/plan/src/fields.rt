@@ -2,7 +2,7 @@
 use crate::Dose;
 use block::byte_at;
 use block::half_at;
-use block::long_at;
+use block::longs_at;
 use block::word_at;
 use day::Day;
 ghost use mathlib.Core.Path.{_≡_};
@@ -76,18 +76,19 @@ pub fn vka_of(r: &[u8]) -> u8
     byte_at(r, 20)
 }
 
-// The dose that a record holds. Its first eight bytes are read as one number.
+// The dose that a record holds, read as three numbers.
 pub fn dose_of(record: &[u8]) -> Dose
     ensures { λ d. ⌜ d ≡ doseOf (now («record» .entry)) ⌝ }
 {
-    let w = long_at(record, 0);
+    let x = longs_at(record, 0);
+    let w = x.first;
     Dose {
         day: (w % 65536) as u16,
         kind: (w / 65536 % 256) as u8,
         mark: (w / 16777216 % 256) as u8,
         minute: (w / 4294967296 % 65536) as u16,
-        low: long_at(record, 8),
-        high: long_at(record, 16),
+        low: x.second,
+        high: x.third,
     }
 }
 
