@@ -21,8 +21,8 @@ use Rattle.period.specs.declared.quick.Quick.{Quick}
 use Rattle.period.specs.Doses.{falls, passes, anyDayUnmarked, besideAnyDay, sameDay, isTimed, isUntimed, twice, otherAmounts, bothKinds, badRange, doseBreaks, unmarkedUpper, unmarkedDay, roundOf, tooMuch}
 use Rattle.period.specs.Finish.{NotYet}
 use Rattle.period.specs.Period.{limitOf, periodBreaks}
-use Rattle.period.specs.Quick.{isLarge, quickRank, quickBegun, quickTurned, quickTo, Quickly, mayPass, mayAnyDay, mayBoth, mayTooMuch, Apart}
-use Rattle.period.proofs.Counts.{any-not-count}
+use Rattle.period.specs.Quick.{quickRank, quickBegun, quickTurned, QuickRoom, Quickly, mayPass, mayAnyDay, mayBoth, mayTooMuch, Apart}
+use Rattle.period.proofs.Counts.{any-count, any-not-count}
 use Rattle.period.proofs.Rank.{others}
 use Rattle.period.proofs.Ruling.{one-on}
 
@@ -82,77 +82,63 @@ count-few q a (suc n) l none =
     one true = omega arith
     one false = omega arith
 
+-- a dose of kinds 1 to 4 has a time
+timed-not : (d : Dose) → isTimed d ≡ true → not (isUntimed d) ≡ true
+timed-not d t =
+    let k = and-both (leb 1 (d .kind)) (leb (d .kind) 4) t in
+    let least : 1 ≤ d .kind = leb-true _ _ (k .0) in
+    rw (ne-eqb (d .kind) 0 (λ (z : d .kind ≡ 0). omega arith))
+
 module _ (D : ℕ → Dose) where
-  -- ranks rise, no range is wrong, and nothing was left out of the sum
-  pub record Fine (j : ℕ) (s : Quick) : Type 0 where
-    pub tops : (i : ℕ) → i < j → quickRank (D i) ≤ s .rank
-    pub rise : (i k : ℕ) → i < k → k < j → quickRank (D i) < quickRank (D k)
-    pub range : (i : ℕ) → i < j → badRange (D i) ≡ false
-    pub sum : s .total ≡ sumBelow j (λ i. unmarkedUpper (D i))
-
-  pub record Kept (j : ℕ) (s : Quick) : Type 0 where
-    pub marked : s .marked ≡ countBelow j (λ i. isMarked (D i))
-    pub untimed : s .untimed ≡ anyBelow j (λ i. isUntimed (D i))
-    pub timed : s .timed ≡ anyBelow j (λ i. isTimed (D i))
-    pub fine : s .fine ≡ true → Fine j s
-
-  begins : Kept 0 quickBegun
+  pub begins : Quickly D 0 quickBegun
   begins =
       record {
+        untimed = sym (count-zero _);
         marked = sym (count-zero _);
-        untimed = sym (any-zero _);
-        timed = sym (any-zero _);
-        fine = λ e. record {
-          tops = λ i l. absurd (omega arith);
-          rise = λ i k l m. absurd (omega arith);
-          range = λ i l. absurd (omega arith);
-          sum = sym (sum-zero _);
-        };
+        tops = λ i l. absurd (omega arith);
+        rise = λ i k l m. absurd (omega arith);
+        range = λ i l. absurd (omega arith);
+        sum = sym (sum-zero _);
+        room = record { untimed = omega arith; marked = omega arith; total = omega arith };
       }
 
-  goes-on : (j : ℕ) (s : Quick) → Kept j s → Kept (j + 1) (quickTurned s (D j))
+  -- dose j is in its turn
+  pub goes-on : (j : ℕ) (s : Quick) → Quickly D j s → s .rank < quickRank (D j) → badRange (D j) ≡ false →
+      QuickRoom (j + 1) (quickTurned s (D j) (quickRank (D j)) (upperOf (D j))) →
+      Quickly D (j + 1) (quickTurned s (D j) (quickRank (D j)) (upperOf (D j)))
   unfolding quickTurned
-  goes-on j s k =
+  goes-on j s k up range room =
       record {
+        untimed = rw (count-more (λ (i : ℕ). isUntimed (D i)) j, k .untimed);
         marked = rw (count-more (λ (i : ℕ). isMarked (D i)) j, k .marked);
-        untimed = rw (any-more (λ (i : ℕ). isUntimed (D i)) j, k .untimed);
-        timed = rw (any-more (λ (i : ℕ). isTimed (D i)) j, k .timed);
-        fine = λ e.
-            let x = and-both (s .fine && ltb (s .rank) (quickRank (D j)) && not (badRange (D j))) (not (isLarge (D j))) e in
-            let y = and-both (s .fine && ltb (s .rank) (quickRank (D j))) (not (badRange (D j))) (x .0) in
-            let z = and-both (s .fine) (ltb (s .rank) (quickRank (D j))) (y .0) in
-            let f = k .fine (z .0) in
-            let up : s .rank < quickRank (D j) = ltb-true _ _ (z .1) in
-            record {
-              tops = below-more (λ (i : ℕ). quickRank (D i) ≤ quickRank (D j)) j (λ i l. omega (arith, f .tops i l)) (omega arith);
-              rise = λ i n l m.
-                  below-more (λ (n : ℕ). (i : ℕ) → i < n → quickRank (D i) < quickRank (D n)) j (λ n m i l. f .rise i n l m) (λ i l. omega (arith, f .tops i l)) n m i l;
-              range = below-more (λ (i : ℕ). badRange (D i) ≡ false) j (f .range) (not-true (badRange (D j)) (y .1));
-              sum = rw (sum-more (λ (i : ℕ). unmarkedUpper (D i)) j, f .sum, not-true (isLarge (D j)) (x .1)) (small (isMarked (D j)));
-            };
+        tops = below-more (λ (i : ℕ). quickRank (D i) ≤ quickRank (D j)) j (λ i l. omega (arith, k .tops i l)) (omega arith);
+        rise = λ i n l m.
+            below-more (λ (n : ℕ). (i : ℕ) → i < n → quickRank (D i) < quickRank (D n)) j (λ n m i l. k .rise i n l m) (λ i l. omega (arith, k .tops i l)) n m i l;
+        range = below-more (λ (i : ℕ). badRange (D i) ≡ false) j (k .range) range;
+        sum = rw (sum-more (λ (i : ℕ). unmarkedUpper (D i)) j, k .sum);
+        room = room;
       }
-    where
-      small : (b : Bool) → sumBelow j (λ i. unmarkedUpper (D i)) + cond (b || false) 0 (upperOf (D j)) ≡ sumBelow j (λ i. unmarkedUpper (D i)) + cond b 0 (upperOf (D j))
-      small true = refl
-      small false = refl
 
-  pub kept : (j : ℕ) → Kept j (quickTo D j)
-  unfolding quickTo
-  kept zero = begins
-  kept (suc j) = rw (← add-one j) (goes-on j (quickTo D j) (kept j))
+  -- the function's steps: dose j, as the code has it
+  pub quick-more : {j rank upper : ℕ} {s t : Quick} {d : Dose} → Quickly D j s → d ≡ D j → rank ≡ quickRank d → s .rank < rank →
+      badRange d ≡ false → upper ≡ upperOf d → t ≡ quickTurned s d rank upper → QuickRoom (j + 1) t → Quickly D (j + 1) t
+  quick-more {j} {rank} {upper} {s} {t} {d} k dose ranked up range most turned room =
+      let e : t ≡ quickTurned s (D j) (quickRank (D j)) (upperOf (D j)) = turned ∙ (rw (most, ranked, dose)) in
+      rw e
+      (goes-on j s k (rw (← dose, ← ranked) up) (rw (← dose) range) (rw (← e) room))
 
   -- n doses were let through
-  module _ (limit n : ℕ) (s : Quick) (k : Kept n s) (f : Fine n s) where
+  module _ (limit n : ℕ) (s : Quick) (k : Quickly D n s) where
     rising : (i j : ℕ) → i ≤ j → j < n → D i .day ≤ D j .day
     rising i j a l =
         ⊎-elim
         (λ (e : i ≡ j). rw e (omega arith))
-        (λ e. quick-day (D i) (D j) (omega (arith, f .rise i j e l)))
+        (λ e. quick-day (D i) (D j) (omega (arith, k .rise i j e l)))
         (eq-or-lt-of-le a)
 
     to-last : (i : ℕ) → i < n → D i .day ≤ s .rank / 4294967296
     unfolding quickRank
-    to-last i l = omega (arith, f .tops i l)
+    to-last i l = omega (arith, k .tops i l)
 
     seven : mayPass s limit ≡ false → NoneBelow (doseBreaks limit 7 D) n
     unfolding doseBreaks
@@ -214,19 +200,19 @@ module _ (D : ℕ → Dose) where
     unfolding doseBreaks
     ten j l =
         any-none (λ (i : ℕ). twice (D i) (D j)) (λ i m.
-        not-true-false (twice (D i) (D j)) (λ t. omega (arith, quick-twice (D i) (D j) t, f .rise i j m l)))
+        not-true-false (twice (D i) (D j)) (λ t. omega (arith, quick-twice (D i) (D j) t, k .rise i j m l)))
 
     eleven : NoneBelow (doseBreaks limit 11 D) n
     unfolding doseBreaks
     eleven j l =
         any-none (λ (i : ℕ). otherAmounts (D i) (D j)) (λ i m.
-        not-true-false (otherAmounts (D i) (D j)) (λ t. omega (arith, quick-other (D i) (D j) t, f .rise i j m l)))
+        not-true-false (otherAmounts (D i) (D j)) (λ t. omega (arith, quick-other (D i) (D j) t, k .rise i j m l)))
 
-    twelve : mayBoth s ≡ false → NoneBelow (doseBreaks limit 12 D) n
+    twelve : mayBoth s n ≡ false → NoneBelow (doseBreaks limit 12 D) n
     unfolding doseBreaks
     twelve e j l =
-        let un : (i : ℕ) → i < n → isUntimed (D i) ≡ true → s .untimed ≡ true = λ i m h. k .untimed ∙ any-hit (λ (i : ℕ). isUntimed (D i)) m h in
-        let ti : (i : ℕ) → i < n → isTimed (D i) ≡ true → s .timed ≡ true = λ i m h. k .timed ∙ any-hit (λ (i : ℕ). isTimed (D i)) m h in
+        let un : (i : ℕ) → i < n → isUntimed (D i) ≡ true → ltb 0 (s .untimed) ≡ true = λ i m h. rw (k .untimed) (sym (any-count (λ (i : ℕ). isUntimed (D i)) n) ∙ any-hit (λ (i : ℕ). isUntimed (D i)) m h) in
+        let ti : (i : ℕ) → i < n → isTimed (D i) ≡ true → ltb (s .untimed) n ≡ true = λ i m h. rw (k .untimed) (sym (any-not-count (λ (i : ℕ). isUntimed (D i)) n) ∙ any-hit (λ (i : ℕ). not (isUntimed (D i))) m (timed-not (D i) h)) in
         any-none (λ (i : ℕ). bothKinds (D i) (D j)) (λ i m.
         not-true-false (bothKinds (D i) (D j)) (λ t.
         ⊎-elim
@@ -240,7 +226,7 @@ module _ (D : ℕ → Dose) where
 
     thirteen : NoneBelow (doseBreaks limit 13 D) n
     unfolding doseBreaks
-    thirteen = f .range
+    thirteen = k .range
 
     fourteen : mayTooMuch s limit ≡ false → tooMuch limit n D ≡ false
     unfolding tooMuch
@@ -251,17 +237,14 @@ module _ (D : ℕ → Dose) where
         ⊎-elim
         (λ (z : eqb limit 0 ≡ true).
         let a : 100000000000 * max 1 (largestBelow n (λ j. unmarkedDay (D j))) ≤ sumBelow n (λ j. unmarkedUpper (D j)) = rw z at much in
-        let b : s .total < 100000000000 * 1 = rw z at few in omega (arith, f .sum))
+        let b : s .total < 100000000000 * 1 = rw z at few in omega (arith, k .sum))
         (λ z.
         let a : 100000000000 * limit ≤ sumBelow n (λ j. unmarkedUpper (D j)) = rw z at much in
-        let b : s .total < 100000000000 * limit = rw z at few in omega (arith, f .sum))
+        let b : s .total < 100000000000 * limit = rw z at few in omega (arith, k .sum))
         (bool-cases (eqb limit 0)))
 
 -- what was let through, with the tests behind the pass, breaks no rule from 7 on
-module _ (p : List ℕ) (b limit n : ℕ) (s : Quick) (limits : limit ≡ limitOf (blockAt p b)) (counts : n ≡ dosesOf p b) (done : Quickly p b n s) where
-  pub counted : s .marked ≡ countBelow n (λ j. isMarked (doseIn p b j))
-  counted = let k : Kept (doseIn p b) n s = rw (done .kept) (kept (doseIn p b) n) in k .marked
-
+module _ (p : List ℕ) (b limit n : ℕ) (s : Quick) (limits : limit ≡ limitOf (blockAt p b)) (counts : n ≡ dosesOf p b) (done : Quickly (doseIn p b) n s) where
   by-doses : (k : ℕ) → 7 ≤ k → k < 14 → NoneBelow (doseBreaks limit k (doseIn p b)) n → periodBreaks k p b ≡ false
   unfolding periodBreaks
   by-doses k a l none =
@@ -272,32 +255,27 @@ module _ (p : List ℕ) (b limit n : ℕ) (s : Quick) (limits : limit ≡ limitO
   unfolding periodBreaks
   by-sum e = rw (← limits, ← counts) e
 
-  pub let-through : s .fine ≡ true → mayPass s limit ≡ false → mayAnyDay (doseIn p b) s n ≡ false → mayBoth s ≡ false → mayTooMuch s limit ≡ false → Apart (doseIn p b) n → NotYet p b 7 → NotYet p b 15
-  let-through fine e7 e8 e12 e14 apart y =
+  pub let-through : mayPass s limit ≡ false → mayAnyDay (doseIn p b) s n ≡ false → mayBoth s n ≡ false → mayTooMuch s limit ≡ false → Apart (doseIn p b) n → NotYet p b 7 → NotYet p b 15
+  let-through e7 e8 e12 e14 apart y =
       let D = doseIn p b in
-      let k : Kept D n s = rw (done .kept) (kept D n) in
-      let f = k .fine fine in
       one-on p b 14 (one-on p b 13 (one-on p b 12 (one-on p b 11 (one-on p b 10 (one-on p b 9 (one-on p b 8 (one-on p b 7 y
-      (by-doses 7 (omega arith) (omega arith) (seven D limit n s k f e7)))
-      (by-doses 8 (omega arith) (omega arith) (eight D limit n s k f e8)))
-      (by-doses 9 (omega arith) (omega arith) (nine D limit n s k f apart)))
-      (by-doses 10 (omega arith) (omega arith) (ten D limit n s k f)))
-      (by-doses 11 (omega arith) (omega arith) (eleven D limit n s k f)))
-      (by-doses 12 (omega arith) (omega arith) (twelve D limit n s k f e12)))
-      (by-doses 13 (omega arith) (omega arith) (thirteen D limit n s k f)))
-      (by-sum (fourteen D limit n s k f e14))
+      (by-doses 7 (omega arith) (omega arith) (seven D limit n s done e7)))
+      (by-doses 8 (omega arith) (omega arith) (eight D limit n s done e8)))
+      (by-doses 9 (omega arith) (omega arith) (nine D limit n s done apart)))
+      (by-doses 10 (omega arith) (omega arith) (ten D limit n s done)))
+      (by-doses 11 (omega arith) (omega arith) (eleven D limit n s done)))
+      (by-doses 12 (omega arith) (omega arith) (twelve D limit n s done e12)))
+      (by-doses 13 (omega arith) (omega arith) (thirteen D limit n s done)))
+      (by-sum (fourteen D limit n s done e14))
 
--- the function's steps: what one dose adds
-pub quick-small : (d : Dose) → cond (isMarked d || isLarge d) 0 (upperOf d) ≤ 9999999999
-quick-small d =
-    ⊎-elim
-    (λ (t : (isMarked d || isLarge d) ≡ true). rw t (omega arith))
-    (λ t. rw t (ltb-false 9999999999 (upperOf d) (or-neither (isMarked d) (isLarge d) t .1)))
-    (bool-cases (isMarked d || isLarge d))
-
-pub quick-more : (D : ℕ → Dose) {j : ℕ} {s t : Quick} {d : Dose} → s ≡ quickTo D j → d ≡ D j → t ≡ quickTurned s d → t ≡ quickTo D (j + 1)
-unfolding quickTo
-quick-more D {j} {s} {t} {d} e g h = rw (add-one, h, g, e)
+-- all of six tests hold
+pub all-six : (a b c d e f : Bool) → (a && b && c && d && e && f) ≡ true → (a ≡ true) × (b ≡ true) × (c ≡ true) × (d ≡ true) × (e ≡ true) × (f ≡ true)
+all-six false b c d e f h = absurd (true-not-false h refl)
+all-six true false c d e f h = absurd (true-not-false h refl)
+all-six true true false d e f h = absurd (true-not-false h refl)
+all-six true true true false e f h = absurd (true-not-false h refl)
+all-six true true true true false f h = absurd (true-not-false h refl)
+all-six true true true true true f h = (refl, refl, refl, refl, refl, h)
 
 -- the comparison of rule 14, by which nothing can grow too large
 pub by-quotient : (limit total : ℕ) → leb limit (total / 100000000000) ≡ leb (100000000000 * limit) total

@@ -6,14 +6,10 @@ use mathlib.Core.List.{List}
 use mathlib.Core.Path.{_≡_}
 use lib.Dec.{eqb, leb, ltb}
 use Rattle.plan.specs.declared.Dose.{Dose}
-use Rattle.plan.specs.Fields.{isMarked, upperOf}
-use Rattle.plan.specs.Periods.{doseIn}
+use Rattle.below.specs.Below.{countBelow, sumBelow}
+use Rattle.plan.specs.Fields.{isMarked}
 use Rattle.period.specs.declared.quick.Quick.{Quick}
-use Rattle.period.specs.Doses.{isTimed, isUntimed, badRange}
-
--- larger than any amount that rule 4 lets through
-abbrev pub isLarge : Dose → Bool
-isLarge d = ltb 9999999999 (upperOf d)
+use Rattle.period.specs.Doses.{isUntimed, badRange, unmarkedUpper}
 
 -- a dose's time as a number: the kind, then the minute of a clock dose, or the need mark where there is no time
 abbrev pub quickKey : Dose → ℕ
@@ -29,37 +25,36 @@ quickBegun =
     record {
       rank = 0;
       fine = true;
-      untimed = false;
-      timed = false;
+      untimed = 0;
       marked = 0;
       total = 0;
     }
 
--- the state with the dose d
-unfoldable pub quickTurned : Quick → Dose → Quick
-quickTurned s d =
+-- the state with the dose d, of this rank and this upper amount
+unfoldable pub quickTurned : Quick → Dose → ℕ → ℕ → Quick
+quickTurned s d rank upper =
     record {
-      rank = quickRank d;
-      fine = s .fine && ltb (s .rank) (quickRank d) && not (badRange d) && not (isLarge d);
-      untimed = s .untimed || isUntimed d;
-      timed = s .timed || isTimed d;
+      rank = rank;
+      fine = true;
+      untimed = s .untimed + cond (isUntimed d) 1 0;
       marked = s .marked + cond (isMarked d) 1 0;
-      total = s .total + cond (isMarked d || isLarge d) 0 (upperOf d);
+      total = s .total + cond (isMarked d) 0 upper;
     }
-
--- the state after j doses
-unfoldable pub quickTo : (ℕ → Dose) → ℕ → Quick
-quickTo D zero = quickBegun
-quickTo D (suc j) = quickTurned (quickTo D j) (D j)
 
 -- no number of the state can grow too large
 pub record QuickRoom (j : ℕ) (s : Quick) : Type 0 where
+  pub untimed : s .untimed ≤ j
   pub marked : s .marked ≤ j
   pub total : s .total ≤ j * 9999999999
 
--- the pass over the period at block b of the plan p has come to dose j
-pub record Quickly (p : List ℕ) (b j : ℕ) (s : Quick) : Type 0 where
-  pub kept : s ≡ quickTo (doseIn p b) j
+-- the pass has come to dose j, and none ahead of it was out of turn: ranks rise, and no range is wrong
+pub record Quickly (D : ℕ → Dose) (j : ℕ) (s : Quick) : Type 0 where
+  pub untimed : s .untimed ≡ countBelow j (λ i. isUntimed (D i))
+  pub marked : s .marked ≡ countBelow j (λ i. isMarked (D i))
+  pub tops : (i : ℕ) → i < j → quickRank (D i) ≤ s .rank
+  pub rise : (i k : ℕ) → i < k → k < j → quickRank (D i) < quickRank (D k)
+  pub range : (i : ℕ) → i < j → badRange (D i) ≡ false
+  pub sum : s .total ≡ sumBelow j (λ i. unmarkedUpper (D i))
   pub room : QuickRoom j s
 
 -- the last day number, which is the largest, passes the limit
@@ -70,9 +65,9 @@ mayPass s limit = ltb 0 limit && ltb limit (s .rank / 4294967296)
 abbrev pub mayAnyDay : (ℕ → Dose) → Quick → ℕ → Bool
 mayAnyDay D s n = ltb 0 n && eqb (D 0 .day) 0 && (ltb (s .marked) n || not (ltb (s .rank) 4294967296))
 
--- there are doses of kind 0 and of kinds 1 to 4
-abbrev pub mayBoth : Quick → Bool
-mayBoth s = s .untimed && s .timed
+-- some of n doses are of kind 0, and some are not
+abbrev pub mayBoth : Quick → ℕ → Bool
+mayBoth s n = ltb 0 (s .untimed) && ltb (s .untimed) n
 
 -- the sum reaches 100,000,000,000 times the limit, or that itself where there is none
 abbrev pub mayTooMuch : Quick → ℕ → Bool

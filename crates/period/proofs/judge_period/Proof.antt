@@ -52,7 +52,7 @@ returns-3 c = let a = c .before .before .before .before .before .before .before 
     let in-turn = sym (c .before .before .before .before .before .before .before .before .before .is-early .ensures) ∙ c .before .before .before .before .before .before .before .before .if2 .left in
     let seen = c .before .before .before .before .glance .ensures in (
       ruling.none-is (a .plan .now) (a .b) (seen .0 (c .before .before .before .if3 .taken) (ruling.to-7 (a .plan .now) (a .b) inside in-turn)),
-      c .class-by .ensures .0 ∙ ruling.class-counted (a .plan .now) (a .b) (c .before .before .before .before .before .before .before .doses-of .ensures .0) (seen .1),
+      c .class-by .ensures .0 ∙ ruling.class-counted (a .plan .now) (a .b) (c .before .before .before .before .before .before .before .doses-of .ensures .0) (seen .1 (c .before .before .before .if3 .taken)),
       search needs,
       c .class-by .ensures .1,
     )

@@ -1,6 +1,7 @@
 use Prim.Native.Nat.{_+_, _*_, _-_, _≤_}
 use mathlib.Core.Path.{_≡_, _∙_}
 use native.Mathlib.Omega.{arith}
+use Rattle.below.proofs.Tests.{true-not-false}
 use Rattle.plan.specs.Periods.{doseIn}
 use Rattle.period.specs.Quick.{Quickly}
 use Rattle.period.proofs.QuickPass.{quick-more}
@@ -10,7 +11,7 @@ use Rattle.period.proofs.quick.quick_block.Statement.{statement}
 use Rattle.period.proofs.quick.quick_block.Tie as tie
 
 abbrev Inv-loop : tie.InvT-loop
-Inv-loop plan b q m r s₀ i₀ s i = (i ≤ m) × Quickly plan b (q * 20 + i) s
+Inv-loop plan b q m r s₀ i₀ s i = (i ≤ m) × Quickly (doseIn plan b) (q * 20 + i) s
 
 abbrev μ-loop : tie.MeasureT-loop
 μ-loop plan b q m r s₀ i₀ s i = m - i
@@ -31,6 +32,24 @@ cast-dose-near c = search needs
 dose-near-requires : tie.Need-dose-near-requires Inv-loop μ-loop
 dose-near-requires c κs = search needs
 
+quick-rank-requires : tie.Need-quick-rank-requires Inv-loop μ-loop
+quick-rank-requires c κs = search needs
+
+not-fine-requires : tie.Need-not-fine-requires Inv-loop μ-loop
+not-fine-requires c κs = search needs
+
+returns : tie.Need-returns Inv-loop μ-loop
+returns c = λ e. absurd (true-not-false e (c .not-fine .ensures))
+
+upper-or-over-requires : tie.Need-upper-or-over-requires Inv-loop μ-loop
+upper-or-over-requires c κs = search needs
+
+not-fine-requires-2 : tie.Need-not-fine-requires-2 Inv-loop μ-loop
+not-fine-requires-2 c κs = search needs
+
+returns-2 : tie.Need-returns-2 Inv-loop μ-loop
+returns-2 c = λ e. absurd (true-not-false e (c .not-fine2 .ensures))
+
 mul-quick-turn : tie.Need-mul-quick-turn Inv-loop μ-loop
 mul-quick-turn c = search needs
 
@@ -38,7 +57,7 @@ add-quick-turn : tie.Need-add-quick-turn Inv-loop μ-loop
 add-quick-turn c = search needs
 
 quick-turn-requires : tie.Need-quick-turn-requires Inv-loop μ-loop
-quick-turn-requires c κs = (search needs, c .before .before .loop .inv .1 .room)
+quick-turn-requires c κs = (search needs, c .before .before .before .before .before .before .before .loop .inv .1 .room, search needs)
 
 add-i : tie.Need-add-i Inv-loop μ-loop
 add-i c = search needs
@@ -47,22 +66,19 @@ loop-less : tie.Need-loop-less Inv-loop μ-loop
 loop-less c = search needs
 
 loop-again : tie.Need-loop-again Inv-loop μ-loop
-loop-again c = let a = c .before .before .before .before .before .before .args in
-    let w = c .before .before .before .loop .inv .1 in
-    let i = c .before .before .before .loop .i in
+loop-again c = let a = c .before .before .before .before .before .before .before .before .before .before .before .args in
+    let i = c .before .before .before .before .before .before .before .before .loop .i in
     let e : a .q * 20 + (i + 1) ≡ a .q * 20 + i + 1 = omega arith in
     let here = in-block (a .plan .now) (a .b) (a .q) i (omega arith) in
-    let dose = c .before .dose-near .ensures ∙ rw (← c .before .before .before .before .block-of .ensures) at here in (
+    let dose = c .before .before .before .before .before .before .dose-near .ensures ∙ rw (← c .before .before .before .before .before .before .before .before .before .block-of .ensures) at here in
+    let most = c .before .before .upper-or-over .ensures (c .before .if2 .left) in (
       search needs,
-      rw e (record {
-        kept = quick-more (doseIn (a .plan .now) (a .b)) (w .kept) dose (c .quick-turn .ensures .0);
-        room = c .quick-turn .ensures .1;
-      }),
+      rw e (quick-more (doseIn (a .plan .now) (a .b)) (c .before .before .before .before .before .before .before .before .loop .inv .1) dose (c .before .before .before .before .before .quick-rank .ensures) (c .before .before .before .if1 .left) (most .0) (most .1) (c .quick-turn .ensures .0) (c .quick-turn .ensures .1)),
     )
 
-returns : tie.Need-returns Inv-loop μ-loop
-returns c = let e : c .before .before .before .before .args .m ≡ c .before .loop .i = omega arith in
-    rw e (c .before .loop .inv .1)
+returns-3 : tie.Need-returns-3 Inv-loop μ-loop
+returns-3 c = let e : c .before .before .before .before .args .m ≡ c .before .loop .i = omega arith in
+    λ t. rw e (c .before .loop .inv .1)
 
 pub quick-block-spec : {M : Type 1} → statement M
 quick-block-spec =
@@ -75,10 +91,16 @@ quick-block-spec =
     loop-holds
     cast-dose-near
     dose-near-requires
+    quick-rank-requires
+    not-fine-requires
+    returns
+    upper-or-over-requires
+    not-fine-requires-2
+    returns-2
     mul-quick-turn
     add-quick-turn
     quick-turn-requires
     add-i
     loop-less
     loop-again
-    returns)
+    returns-3)
