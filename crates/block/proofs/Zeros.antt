@@ -95,7 +95,6 @@ module _ (s : List ℕ) where
   pub zero-none : (a : ℕ) → zeroIn s a 0 ≡ true
   zero-none a = each-zero a 0 (λ k l. absurd (not-suc-le-zero l))
 
-
 -- a number is zero exactly where its bytes are
 number-each : (w : ℕ) (s : List ℕ) (i : ℕ) → numberAt w s i ≡ 0 → EachZero s i w
 unfolding numberAt
@@ -131,5 +130,20 @@ pub eight-longs : (s : List ℕ) (i : ℕ) →
     (eqb (numberAt 8 s i) 0 && eqb (numberAt 8 s (i + 8)) 0 && eqb (numberAt 8 s (i + 16)) 0 && eqb (numberAt 8 s (i + 24)) 0 && eqb (numberAt 8 s (i + 32)) 0 && eqb (numberAt 8 s (i + 40)) 0 && eqb (numberAt 8 s (i + 48)) 0 && eqb (numberAt 8 s (i + 56)) 0)
     ≡ zeroIn s i 64
 eight-longs s i =
-    rw (number-zero, number-zero, number-zero, number-zero, number-zero, number-zero, number-zero, number-zero,
-      zero-split s i 56 8, zero-split s i 48 8, zero-split s i 40 8, zero-split s i 32 8, zero-split s i 24 8, zero-split s i 16 8, zero-split s i 8 8)
+    rw (
+      number-zero,
+      number-zero,
+      number-zero,
+      number-zero,
+      number-zero,
+      number-zero,
+      number-zero,
+      number-zero,
+      zero-split s i 56 8,
+      zero-split s i 48 8,
+      zero-split s i 40 8,
+      zero-split s i 32 8,
+      zero-split s i 24 8,
+      zero-split s i 16 8,
+      zero-split s i 8 8,
+    )

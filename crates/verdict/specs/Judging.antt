@@ -2,14 +2,17 @@
 -- block, and the class of each period.
 use Prim.Native.Nat.{ℕ, _≤_, _<_}
 use mathlib.Core.Path.{_≡_}
-use mathlib.Core.Bool.{true, false}
+use mathlib.Core.Bool.{true, false, cond}
 use mathlib.Core.List.{List}
-use lib.ListN.{length, getD}
+use lib.ListN.{length, getD, replicate}
 use Rattle.plan.specs.Periods.{blocksOf, isPeriod, classOf}
 use Rattle.below.specs.Below.{anyBelow}
+use Rattle.below.specs.Lists.{listBelow}
 use Rattle.form.specs.Form.{badLength}
 use Rattle.period.specs.Period.{ruleOf}
-use Rattle.verdict.specs.declared.order.Judging.{Judging}
+use Rattle.verdict.specs.declared.Answer.{Answer}
+use Rattle.verdict.specs.declared.Answer.the-variants.{Accepted, Broken}
+use Rattle.verdict.specs.declared.order.Found.{Found}
 use Rattle.verdict.specs.Verdict.{planLimit, breaks}
 
 pub record Lowest (p : List ℕ) (b rule place : ℕ) : Type 0 where
@@ -19,10 +22,26 @@ pub record Lowest (p : List ℕ) (b rule place : ℕ) : Type 0 where
   pub some : rule < 15 → (place < b) × (isPeriod p place ≡ true) × (ruleOf p place ≡ rule)
   pub first : rule < 15 → (c : ℕ) → c < place → isPeriod p c ≡ true → rule < ruleOf p c
 
-pub record Judged (p : List ℕ) (b : ℕ) (s : Judging) : Type 0 where
+-- the class of the period that begins at block c, 0 where none does
+abbrev pub classAt : List ℕ → ℕ → ℕ
+classAt p c = cond (isPeriod p c) (classOf p c) 0
+
+-- cs has the classes of the periods ahead of block b
+pub record Judged (p : List ℕ) (b : ℕ) (s : Found) (cs : List ℕ) : Type 0 where
   pub lowest : Lowest p b (s .rule) (s .place)
-  pub long : length (s .classes) ≡ 32
-  pub classed : (c : ℕ) → c < b → isPeriod p c ≡ true → getD (s .classes) c 0 ≡ classOf p c
+  pub long : length cs ≡ 32
+  pub classed : (c : ℕ) → c < b → getD cs c 0 ≡ classAt p c
+  pub rest : (c : ℕ) → b ≤ c → c < 32 → getD cs c 0 ≡ 0
+
+-- the classes of an accepted plan's periods, by block
+unfoldable pub classesBy : Answer → List ℕ → List ℕ
+classesBy (Accepted n) p = listBelow 32 (classAt p)
+classesBy (Broken r) p = replicate 32 0
+
+-- cs has the classes, where the plan is accepted
+abbrev pub HasClasses : Answer → List ℕ → List ℕ → Type 0
+HasClasses (Accepted n) p cs = cs ≡ listBelow 32 (classAt p)
+HasClasses (Broken r) p cs = _≡_ {A = ℕ} 0 0
 
 -- rule 1 and no rule below k is broken: what the test of rule k counts on
 pub record Unbroken (p : List ℕ) (k : ℕ) : Type 0 where

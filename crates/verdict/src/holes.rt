@@ -6,10 +6,8 @@ use crate::coverage::has_days;
 use crate::coverage::in_group;
 use crate::coverage::is_member;
 use crate::coverage::later;
-use crate::coverage::span_of;
 use day::Day;
 use plan::block_of;
-use plan::is_period;
 ghost use mathlib.Core.Path.{_≡_};
 ghost use mathlib.Core.Bool.{true, false};
 ghost use Prim.Native.Nat.{_<_};
@@ -35,14 +33,14 @@ fn cover_of(g: Group) -> Group
 // A walk over the periods of a group and its cover: the cover has each day from `from` up to, and without, `to`, and no
 // period of the group so far has another day, unless the walk is lost. Until the group has begun, the days begin anew with
 // each period of the cover that does not join them.
-struct Reach {
-    from: u32,
-    to: u32,
-    began: bool,
-    lost: bool,
+pub(crate) struct Reach {
+    pub from: u32,
+    pub to: u32,
+    pub began: bool,
+    pub lost: bool,
 }
 
-const START: Reach = Reach {
+pub(crate) const NOWHERE: Reach = Reach {
     from: 0,
     to: 0,
     began: false,
@@ -50,7 +48,7 @@ const START: Reach = Reach {
 };
 
 // The walk goes on over a period.
-fn reach_on(g: Group, q: Span, s: Reach) -> Reach
+pub(crate) fn reach_on(g: Group, q: Span, s: Reach) -> Reach
     ensures { λ r. ⌜ r ≡ reachOn g q s ⌝ }
 {
     if !in_group(cover_of(g), q.class) {
@@ -75,27 +73,6 @@ fn reach_on(g: Group, q: Span, s: Reach) -> Reach
         began,
         lost: s.lost | s.began,
     }
-}
-
-// Has the plan no hole? `true` is certain.
-fn are_covered(plan: &[u8], cs: &[u8; 32]) -> bool
-    requires { ⌜ Classed (now plan) (now cs) ⌝ }
-    ensures { λ r. ⌜ (r ≡ true → holes (now (plan .entry)) ≡ false) ⌝ }
-{
-    let n = (plan.len() / 512) as u8;
-    let mut all = START;
-    let mut fixed = START;
-    let mut need = START;
-    for b in 0..n {
-        if !is_period(plan, b) {
-            continue;
-        }
-        let q = span_of(plan, cs, b);
-        all = reach_on(Group::All, q, all);
-        fixed = reach_on(Group::Fixed, q, fixed);
-        need = reach_on(Group::Need, q, need);
-    }
-    !(all.lost | fixed.lost | need.lost)
 }
 
 // Does block b begin a period of the group that has a day from lo to hi?
@@ -158,14 +135,11 @@ fn has_hole(g: Group, plan: &[u8], cs: &[u8; 32]) -> bool
     false
 }
 
-// Rule 17. Only where a walk is lost is the day after each period tested.
+// Rule 17, for plans that the walks of usual.rt do not let through.
 pub(crate) fn has_holes(plan: &[u8], cs: &[u8; 32]) -> bool
     requires { ⌜ Ready (now plan) (now cs) ⌝ }
     ensures { λ r. ⌜ r ≡ holes (now (plan .entry)) ⌝ }
 {
-    if are_covered(plan, cs) {
-        return false;
-    }
     has_hole(Group::All, plan, cs)
         | has_hole(Group::Fixed, plan, cs)
         | has_hole(Group::Need, plan, cs)

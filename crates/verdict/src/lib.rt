@@ -3,9 +3,11 @@ mod coverage;
 mod holes;
 mod order;
 mod sharing;
+mod usual;
 
 pub use order::refusal_of;
 pub use order::verdict;
+pub use order::verdict_with_classes;
 use refusal::Refusal;
 
 // The groups of periods that rule 17 names.
@@ -21,4 +23,10 @@ pub enum Group {
 pub enum Answer {
     Accepted(usize),
     Broken(Refusal),
+}
+
+// An answer, and the class of the period at each of 32 blocks.
+pub struct Classes {
+    pub answer: Answer,
+    pub classes: [u8; 32],
 }

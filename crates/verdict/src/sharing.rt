@@ -4,7 +4,6 @@ use crate::coverage::Span;
 use crate::coverage::has_days;
 use crate::coverage::in_group;
 use crate::coverage::later;
-use crate::coverage::span_of;
 use plan::block_of;
 use plan::first_of;
 use plan::is_period;
@@ -20,18 +19,18 @@ ghost use Rattle.verdict.specs.Walks.{freeOn};
 
 // A walk over the periods of a group: `day` is the first day behind all of them so far, and each began behind those ahead
 // of it, unless the walk is lost.
-struct Free {
-    day: u32,
-    lost: bool,
+pub(crate) struct Free {
+    pub day: u32,
+    pub lost: bool,
 }
 
-const START: Free = Free {
+pub(crate) const ALL_FREE: Free = Free {
     day: 0,
     lost: false,
 };
 
 // The walk goes on over a period.
-fn free_on(g: Group, q: Span, s: Free) -> Free
+pub(crate) fn free_on(g: Group, q: Span, s: Free) -> Free
     ensures { λ r. ⌜ r ≡ freeOn g q s ⌝ }
 {
     if !in_group(g, q.class) {
@@ -41,26 +40,6 @@ fn free_on(g: Group, q: Span, s: Free) -> Free
         day: later(s.day, q.end),
         lost: s.lost | (q.first < s.day),
     }
-}
-
-// Does no period break rule 16? `true` is certain. Two periods may share a day exactly where neither of two groups holds
-// both, so it is enough that in each group every period begins behind those ahead of it.
-fn are_apart(plan: &[u8], cs: &[u8; 32]) -> bool
-    requires { ⌜ Classed (now plan) (now cs) ⌝ }
-    ensures { λ r. ⌜ (r ≡ true → (b : ℕ) → b < blocksOf (now (plan .entry)) → shares (now (plan .entry)) b ≡ false) ⌝ }
-{
-    let n = (plan.len() / 512) as u8;
-    let mut fixed = START;
-    let mut need = START;
-    for b in 0..n {
-        if !is_period(plan, b) {
-            continue;
-        }
-        let q = span_of(plan, cs, b);
-        fixed = free_on(Group::FixedOrEmpty, q, fixed);
-        need = free_on(Group::Need, q, need);
-    }
-    !(fixed.lost | need.lost)
 }
 
 // May periods of these classes share a day?
@@ -107,9 +86,6 @@ pub(crate) fn first_shared(plan: &[u8], cs: &[u8; 32]) -> u8
     ensures { λ r. ⌜ r ≡ firstBelow (blocksOf (now (plan .entry))) (shares (now (plan .entry))) ⌝ }
 {
     let n = (plan.len() / 512) as u8;
-    if are_apart(plan, cs) {
-        return n;
-    }
     for b in 0..n {
         if is_shared(plan, cs, b) {
             return b;

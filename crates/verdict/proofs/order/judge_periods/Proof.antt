@@ -1,24 +1,24 @@
 use Prim.Native.Nat.{_≤_, _-_}
-use mathlib.Core.Path.{refl, _≡_}
+use mathlib.Core.Path.{_≡_}
 use native.Mathlib.Omega.{arith}
-use borrow.Author.Needs.{needs}
 use Rattle.plan.specs.Periods.{blocksOf}
 use Rattle.verdict.specs.Judging.{Judged}
-use Rattle.verdict.proofs.Lowest.{lowest-zero}
+use Rattle.verdict.proofs.Passing.{judged-zero}
+use borrow.Author.Needs.{needs}
 use Rattle.verdict.proofs.order.judge_periods.Statement.{statement}
 use Rattle.verdict.proofs.order.judge_periods.Tie as tie
 
 abbrev Inv-loop : tie.InvT-loop
-Inv-loop plan n s₀ b₀ s b = (b ≤ n) × (n ≡ blocksOf plan) × Judged plan b s
+Inv-loop plan cs₀ n s₀ b₀ cs s b = (b ≤ n) × (n ≡ blocksOf plan) × Judged plan b s cs
 
 abbrev μ-loop : tie.MeasureT-loop
-μ-loop plan n s₀ b₀ s b = n - b
+μ-loop plan cs₀ n s₀ b₀ cs s b = n - b
 
 cast-n : tie.Need-cast-n Inv-loop μ-loop
 cast-n c = search needs
 
 loop-holds : tie.Need-loop-holds Inv-loop μ-loop
-loop-holds c = (search needs, search needs, record { lowest = lowest-zero _ 0; long = refl; classed = λ k l. absurd (omega arith) })
+loop-holds c = (search needs, search needs, judged-zero _ _ (c .before .pre .1))
 
 with-block-requires : tie.Need-with-block-requires Inv-loop μ-loop
 with-block-requires c κs = search needs
