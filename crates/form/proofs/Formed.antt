@@ -1,21 +1,22 @@
 -- What the later rules count on: a plan that breaks none of rules 1 to 4. Assumes nothing.
 use Prim.Native.Nat.{ℕ, _≤_, _<_}
-use mathlib.Core.Bool.{true, false, not, _||_}
+use mathlib.Core.Bool.{Bool, true, false, not, _||_}
 use mathlib.Core.List.{List}
 use mathlib.Core.Logic.{⊎-elim}
 use mathlib.Core.Path.{_≡_, sym}
+use native.Mathlib.Nat.{le-refl}
 use native.Mathlib.Omega.{arith}
 use lib.Dec.{eqb, ltb}
 use borrow.Author.Tests.{leb-true, ltb-false, eqb-true, not-false}
-use Rattle.below.proofs.Search.{any-none, any-not}
+use Rattle.below.proofs.Search.{NoneBelow, any-none, any-not}
 use Rattle.below.proofs.Tests.{bool-cases, true-not-false, and-false, or-either, or-neither}
 use Rattle.block.specs.Sums.{sumsRight}
 use Rattle.day.specs.Days.{openMark, isDay}
 use Rattle.plan.specs.Fields.{kindOf, firstOf, endOf, lastOf}
 use Rattle.plan.specs.Periods.{blocksOf, blockAt, isPeriod}
-use Rattle.refusal.proofs.Order.{Passed, passed-lowest}
+use Rattle.refusal.proofs.Order.{Passed, passed-lowest, rule-none}
 use Rattle.refusal.specs.declared.Refusal.{Refusal}
-use Rattle.form.specs.Form.{badLength, misplaced, daysOut, dosesOut, periodOut, blockOut, formBreaks, formRule, formOf}
+use Rattle.form.specs.Form.{badLength, sumsWrong, misplaced, daysOut, dosesOut, periodOut, blockOut, formBreaks, formRule, formOf}
 use Rattle.form.specs.declared.Form.the-variants.{Right, Broken}
 use Rattle.form.proofs.Laws.{right-is}
 
@@ -90,7 +91,7 @@ module _ {limit : ℕ} {p : List ℕ} (f : Formed limit p) where
       days-in (blockAt p b) (or-neither (daysOut (blockAt p b)) _ (or-neither _ (dosesOut (blockAt p b)) o .0) .0)
 
 -- and the other way: bytes of which no block breaks rule 2, 3 or 4 are right
-module _ (limit : ℕ) (p : List ℕ) (long : badLength limit p ≡ false)
+module _ (p : List ℕ)
     (sums : (b : ℕ) → b < blocksOf p → sumsRight (blockAt p b) ≡ true)
     (places : (b : ℕ) → b < blocksOf p → misplaced p b ≡ false)
     (ranges : (b : ℕ) → b < blocksOf p → blockOut (blockAt p b) ≡ false) where
@@ -106,5 +107,30 @@ module _ (limit : ℕ) (p : List ℕ) (long : badLength limit p ≡ false)
       (bool-cases (eqb k 3)))
       (bool-cases (eqb k 2))
 
+  all-passed : Passed (blocksOf p) (formBreaks p) 5
+  all-passed k h = any-none (formBreaks p k) (λ b l. unbroken k b h l)
+
+module _ (limit : ℕ) (p : List ℕ) (long : badLength limit p ≡ false)
+    (sums : (b : ℕ) → b < blocksOf p → sumsRight (blockAt p b) ≡ true)
+    (places : (b : ℕ) → b < blocksOf p → misplaced p b ≡ false)
+    (ranges : (b : ℕ) → b < blocksOf p → blockOut (blockAt p b) ≡ false) where
   pub right : formOf limit p ≡ Right
-  right = sym (right-is limit p long (λ k h. any-none (formBreaks p k) (λ b l. unbroken k b h l)))
+  right = sym (right-is limit p long (all-passed p sums places ranges))
+
+-- the three rules, asked of one block after another
+abbrev pub brokenAt : List ℕ → ℕ → Bool
+brokenAt p b = misplaced p b || blockOut (blockAt p b) || sumsWrong p b
+
+pub none-broken : (p : List ℕ) → NoneBelow (brokenAt p) (blocksOf p) → formRule p ≡ 5
+none-broken p none =
+    rule-none (blocksOf p) (formBreaks p) (le-refl 5)
+    (all-passed p
+    (λ b l. not-false _ (two b l .1))
+    (λ b l. one b l .0)
+    (λ b l. one b l .1))
+  where
+    two : (b : ℕ) → b < blocksOf p → ((misplaced p b || blockOut (blockAt p b)) ≡ false) × (sumsWrong p b ≡ false)
+    two b l = or-neither (misplaced p b || blockOut (blockAt p b)) (sumsWrong p b) (none b l)
+
+    one : (b : ℕ) → b < blocksOf p → (misplaced p b ≡ false) × (blockOut (blockAt p b) ≡ false)
+    one b l = or-neither (misplaced p b) (blockOut (blockAt p b)) (two b l .0)

@@ -55,8 +55,9 @@ module _ (limit : ℕ) (p : List ℕ) (long : badLength limit p ≡ false) where
       let e : formRule p ≡ k = rule-is (blocksOf p) (formBreaks p) l passed h in
       rw (long, e, lt-ltb k 5 l)
 
-  pub right-is : Passed (blocksOf p) (formBreaks p) 5 → Right ≡ formOf limit p
+  pub right-by : formRule p ≡ 5 → Right ≡ formOf limit p
   unfolding formOf
-  right-is passed =
-      let e : formRule p ≡ 5 = rule-none (blocksOf p) (formBreaks p) (le-refl 5) passed in
-      rw (long, e)
+  right-by e = rw (long, e)
+
+  pub right-is : Passed (blocksOf p) (formBreaks p) 5 → Right ≡ formOf limit p
+  right-is passed = right-by (rule-none (blocksOf p) (formBreaks p) (le-refl 5) passed)

@@ -1,16 +1,17 @@
 // Rule 4: the fields and the zero bytes of one whole block.
 use block::is_zero;
 use block::long_at;
+use block::longs_at;
+use block::word_at;
 use day::is_no_span;
 use plan::count_of;
 use plan::end_of;
 use plan::first_of;
 use plan::kind_of;
-use plan::vka_of;
 ghost use mathlib.Core.Path.{_≡_};
-ghost use Prim.Native.Nat.{_≤_, _<_};
-ghost use mathlib.Core.Bool.{cond};
-ghost use lib.Dec.{eqb};
+ghost use Prim.Native.Nat.{_/_, _%_, _≤_, _<_};
+ghost use mathlib.Core.Bool.{cond, _||_};
+ghost use lib.Dec.{eqb, ltb};
 ghost use lib.ListN.{length};
 ghost use Rattle.below.specs.Below.{anyBelow};
 ghost use Rattle.plan.specs.Fields.{recordAt};
@@ -30,26 +31,34 @@ fn days_out(r: &[u8]) -> bool
     is_no_span(first_of(r), end_of(r))
 }
 
-// The largest minute that goes with a time kind.
-fn last_minute(kind: u64) -> u64
-    ensures { λ m. ⌜ m ≡ cond (eqb kind 5) 1439 0 ⌝ }
+// The first eight bytes of a dose record as one number: above the day number the time kind, the need mark, the minute, and bytes
+// 6 and 7. Where those two are not zero, they and the minute together pass every minute. A number below 2^25 has a mark of at
+// most 1 and zero above it, as every right one without a clock time has.
+fn time_out(w: u64) -> bool
+    ensures { λ t. ⌜ t ≡ (ltb 5 (w / 65536 % 256) || ltb 1 (w / 16777216 % 256) || ltb (cond (eqb (w / 65536 % 256) 5) 1439 0) (w / 4294967296)) ⌝ }
 {
-    if kind == 5 { 1439 } else { 0 }
+    let kind = w / 65536 % 256;
+    if w < 33554432 {
+        return 5 < kind;
+    }
+    if kind != 5 {
+        return true;
+    }
+    (1 < w / 16777216 % 256) | (1439 < w / 4294967296)
 }
 
-// The first eight bytes are read as one number. Bytes 6 and 7 stand behind the minute in it: where they are not zero, the two
-// together pass every minute.
 fn record_out(record: &[u8]) -> bool
     requires { ⌜ length (now «record») ≡ 24 ⌝ }
     ensures { λ t. ⌜ t ≡ recordOut (now («record» .entry)) ⌝ }
 {
-    let w = long_at(record, 0);
-    let kind = w / 65536 % 256;
-    (5 < kind)
-        | (1 < w / 16777216 % 256)
-        | (last_minute(kind) < w / 4294967296)
-        | (9999999999 < long_at(record, 8))
-        | (9999999999 < long_at(record, 16))
+    let x = longs_at(record, 0);
+    if time_out(x.first) {
+        return true;
+    }
+    if 9999999999 < x.second {
+        return true;
+    }
+    9999999999 < x.third
 }
 
 // Dose record i of a block, handed on as a part of it.
@@ -66,11 +75,12 @@ fn any_dose_out(r: &[u8], n: usize) -> bool
     requires { ⌜ (length (now r) ≡ 512) × (n ≤ 20) ⌝ }
     ensures { λ t. ⌜ t ≡ anyBelow n (λ i. recordOut (recordAt (now (r .entry)) i)) ⌝ }
 {
-    let mut found = false;
     for i in 0..n {
-        found = found | dose_out(r, i);
+        if dose_out(r, i) {
+            return true;
+        }
     }
-    found
+    false
 }
 
 fn doses_out(r: &[u8]) -> bool
@@ -81,21 +91,41 @@ fn doses_out(r: &[u8]) -> bool
     if 20 < n {
         return true;
     }
-    any_dose_out(r, n) | not_zero(r, 24 + n * 24, 504)
+    if any_dose_out(r, n) {
+        return true;
+    }
+    not_zero(r, 24 + n * 24, 504)
 }
 
+// Bytes 20 to 23 are read as one number, at most 1 where the VKA byte is and the three behind it are zero.
 fn head_out(r: &[u8]) -> bool
     requires { ⌜ length (now r) ≡ 512 ⌝ }
     ensures { λ t. ⌜ t ≡ headOut (now (r .entry)) ⌝ }
 {
-    days_out(r) | (1 < vka_of(r)) | not_zero(r, 21, 504)
+    if days_out(r) {
+        return true;
+    }
+    if 1 < word_at(r, 20) {
+        return true;
+    }
+    not_zero(r, 24, 504)
 }
 
+// Bytes 12 to 23 are zero where the two numbers that they make are.
 fn period_out(r: &[u8]) -> bool
     requires { ⌜ length (now r) ≡ 512 ⌝ }
     ensures { λ t. ⌜ t ≡ periodOut (now (r .entry)) ⌝ }
 {
-    days_out(r) | not_zero(r, 12, 24) | doses_out(r)
+    if days_out(r) {
+        return true;
+    }
+    if word_at(r, 12) != 0 {
+        return true;
+    }
+    if long_at(r, 16) != 0 {
+        return true;
+    }
+    doses_out(r)
 }
 
 fn continuation_out(r: &[u8]) -> bool

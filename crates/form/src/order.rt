@@ -8,11 +8,11 @@ use plan::kind_of;
 use refusal::Refusal;
 ghost use mathlib.Core.Path.{_≡_};
 ghost use Prim.Native.Nat.{_≤_, _<_};
-ghost use mathlib.Core.Bool.{false};
+ghost use mathlib.Core.Bool.{true, false, _||_};
 ghost use Rattle.below.specs.Below.{firstBelow};
 ghost use Rattle.refusal.specs.Order.{lowestBlock};
-ghost use Rattle.plan.specs.Periods.{blocksOf};
-ghost use Rattle.form.specs.Form.{badLength, sumsWrong, noHead, goesOn, misplaced, formBreaks, formOf};
+ghost use Rattle.plan.specs.Periods.{blocksOf, blockAt};
+ghost use Rattle.form.specs.Form.{badLength, sumsWrong, noHead, goesOn, misplaced, blockOut, formBreaks, formRule, formOf};
 ghost use Rattle.form.specs.Whole.{Whole};
 
 // Rule 1.
@@ -54,7 +54,13 @@ fn is_misplaced(plan: &[u8], b: u8) -> bool
         return no_head(plan);
     }
     let kind = kind_of(block_of(plan, b as u16));
-    !((kind == 2) | ((kind == 3) & goes_on(plan, b - 1)))
+    if kind == 2 {
+        return false;
+    }
+    if kind != 3 {
+        return true;
+    }
+    !goes_on(plan, b - 1)
 }
 
 // Block b breaks rule k, from 2 to 4.
@@ -85,12 +91,44 @@ fn lowest_block(plan: &[u8], k: u8) -> u8
     n
 }
 
-// The first of rules 1 to 4 that is broken, with its place.
+// Block b breaks rule 2, 3 or 4.
+fn is_broken(plan: &[u8], b: u8) -> bool
+    requires { ⌜ Whole (now plan) ⌝ }
+    requires { ⌜ b < blocksOf (now plan) ⌝ }
+    ensures { λ r. ⌜ r ≡ (misplaced (now (plan .entry)) b || blockOut (blockAt (now (plan .entry)) b) || sumsWrong (now (plan .entry)) b) ⌝ }
+{
+    if is_misplaced(plan, b) {
+        return true;
+    }
+    if block_out(block_of(plan, b as u16)) {
+        return true;
+    }
+    sums_wrong(plan, b)
+}
+
+// True only where no block breaks rule 2, 3 or 4: the usual plan is gone through once, with all three rules at each block.
+fn is_right(plan: &[u8]) -> bool
+    requires { ⌜ Whole (now plan) ⌝ }
+    ensures { λ r. ⌜ (r ≡ true → formRule (now (plan .entry)) ≡ 5) ⌝ }
+{
+    let n = (plan.len() / 512) as u8;
+    for b in 0..n {
+        if is_broken(plan, b) {
+            return false;
+        }
+    }
+    true
+}
+
+// The first of rules 1 to 4 that is broken, with its place. Rule by rule only where one is.
 pub fn form_of(plan: &[u8], limit: u16) -> Form
     ensures { λ r. ⌜ r ≡ formOf limit (now (plan .entry)) ⌝ }
 {
     if bad_length(plan, limit) {
         return Form::Broken(Refusal::of_rule(1, 0));
+    }
+    if is_right(plan) {
+        return Form::Right;
     }
     let n = (plan.len() / 512) as u8;
     for k in 2..5u8 {

@@ -1,25 +1,26 @@
 use Prim.Native.Nat.{_≤_, _-_}
-use mathlib.Core.Path.{_≡_, sym}
-use native.Mathlib.Omega.{arith}
+use mathlib.Core.Path.{sym, _∙_}
 use borrow.Author.Needs.{needs}
-use Rattle.below.proofs.Search.{any-zero, any-more}
-use Rattle.below.specs.Below.{anyBelow}
+use Rattle.below.proofs.Search.{NoneBelow, none-zero, none-more, any-hit, any-end}
 use Rattle.plan.specs.Fields.{recordAt}
 use Rattle.form.specs.Form.{recordOut}
 use Rattle.form.proofs.block_form.any_dose_out.Statement.{statement}
 use Rattle.form.proofs.block_form.any_dose_out.Tie as tie
 
 abbrev Inv-loop : tie.InvT-loop
-Inv-loop r n found₀ i₀ found i = (i ≤ n) × (found ≡ anyBelow i (λ k. recordOut (recordAt r k)))
+Inv-loop r n i₀ i = (i ≤ n) × NoneBelow (λ k. recordOut (recordAt r k)) i
 
 abbrev μ-loop : tie.MeasureT-loop
-μ-loop r n found₀ i₀ found i = n - i
+μ-loop r n i₀ i = n - i
 
 loop-holds : tie.Need-loop-holds Inv-loop μ-loop
-loop-holds c = (search needs, sym (any-zero _))
+loop-holds c = (search needs, none-zero _)
 
 dose-out-requires : tie.Need-dose-out-requires Inv-loop μ-loop
 dose-out-requires c κs = search needs
+
+returns : tie.Need-returns Inv-loop μ-loop
+returns c = sym (any-hit _ (c .before .before .loop-test .taken) (sym (c .before .dose-out .ensures) ∙ c .if1 .taken))
 
 add-i : tie.Need-add-i Inv-loop μ-loop
 add-i c = search needs
@@ -28,12 +29,21 @@ loop-less : tie.Need-loop-less Inv-loop μ-loop
 loop-less c = search needs
 
 loop-again : tie.Need-loop-again Inv-loop μ-loop
-loop-again c = (search needs, rw any-more (cc))
+loop-again c = (search needs, none-more _ (c .before .before .before .loop .inv .1) (sym (c .before .dose-out .ensures) ∙ c .if1 .left))
 
-returns : tie.Need-returns Inv-loop μ-loop
-returns c = let e : c .before .loop .i ≡ c .before .before .before .args .n = omega arith in rw e at (c .before .loop .inv .1)
+returns-2 : tie.Need-returns-2 Inv-loop μ-loop
+returns-2 c = sym (any-end _ (c .loop-test .left) (c .before .loop .inv .1))
 
 pub any-dose-out-spec : {M : Type 1} → statement M
 any-dose-out-spec =
     tie.close
-    (tie.spec Inv-loop μ-loop loop-holds dose-out-requires add-i loop-less loop-again returns)
+    (tie.spec
+    Inv-loop
+    μ-loop
+    loop-holds
+    dose-out-requires
+    returns
+    add-i
+    loop-less
+    loop-again
+    returns-2)

@@ -1,9 +1,12 @@
 use Prim.Native.Nat.{_≤_, _<_}
+use mathlib.Core.Bool.{true, false}
+use mathlib.Core.Path.{_≡_, sym, _∙_}
 use native.Mathlib.Omega.{arith}
 use borrow.Author.Needs.{needs}
 use borrow.Author.Tests.{lt-ltb, le-ltb}
-use Rattle.plan.specs.Fields.{countOf}
-use Rattle.form.specs.Form.{dosesOut}
+use Rattle.below.specs.Below.{anyBelow}
+use Rattle.plan.specs.Fields.{countOf, recordAt}
+use Rattle.form.specs.Form.{recordOut, dosesOut}
 use Rattle.form.proofs.block_form.doses_out.Statement.{statement}
 use Rattle.form.proofs.block_form.doses_out.Tie as tie
 
@@ -20,6 +23,13 @@ returns c = let h : 20 < countOf (c .before .before .before .args .r .now) = ome
 any-dose-out-requires : tie.Need-any-dose-out-requires
 any-dose-out-requires c κs = search needs
 
+returns-2 : tie.Need-returns-2
+unfolding dosesOut
+returns-2 c = let r = c .before .before .before .before .before .args .r .now in
+    let h : countOf r ≤ 20 = omega arith in
+    let a : anyBelow (countOf r) (λ i. recordOut (recordAt r i)) ≡ true = rw (← c .before .before .before .count-of .ensures) (sym (c .before .any-dose-out .ensures) ∙ c .if2 .taken) in
+    rw (le-ltb _ _ h, a)
+
 mul-not-zero : tie.Need-mul-not-zero
 mul-not-zero c = search needs
 
@@ -29,9 +39,12 @@ add-not-zero c = search needs
 not-zero-requires : tie.Need-not-zero-requires
 not-zero-requires c κs = search needs
 
-returns-2 : tie.Need-returns-2
+returns-3 : tie.Need-returns-3
 unfolding dosesOut
-returns-2 c = let h : countOf (c .before .before .before .before .before .args .r .now) ≤ 20 = omega arith in rw (le-ltb _ _ h) (cc)
+returns-3 c = let r = c .before .before .before .before .before .before .args .r .now in
+    let h : countOf r ≤ 20 = omega arith in
+    let a : anyBelow (countOf r) (λ i. recordOut (recordAt r i)) ≡ false = rw (← c .before .before .before .before .count-of .ensures) (sym (c .before .before .any-dose-out .ensures) ∙ c .before .if2 .left) in
+    rw (le-ltb _ _ h, a, ← c .before .before .before .before .count-of .ensures) (c .not-zero .ensures)
 
 pub doses-out-spec : {M : Type 1} → statement M
 doses-out-spec =
@@ -41,7 +54,8 @@ doses-out-spec =
     cast-n
     returns
     any-dose-out-requires
+    returns-2
     mul-not-zero
     add-not-zero
     not-zero-requires
-    returns-2)
+    returns-3)

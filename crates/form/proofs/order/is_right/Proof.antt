@@ -1,0 +1,55 @@
+use Prim.Native.Nat.{_≤_, _-_}
+use mathlib.Core.Path.{_≡_, refl, sym, _∙_}
+use native.Mathlib.Omega.{arith}
+use borrow.Author.Needs.{needs}
+use Rattle.below.proofs.Search.{NoneBelow, none-zero, none-more}
+use Rattle.below.proofs.Tests.{true-not-false}
+use Rattle.plan.specs.Periods.{blocksOf}
+use Rattle.form.proofs.Formed.{brokenAt, none-broken}
+use Rattle.form.proofs.order.is_right.Statement.{statement}
+use Rattle.form.proofs.order.is_right.Tie as tie
+
+abbrev Inv-loop : tie.InvT-loop
+Inv-loop plan n b₀ b = (b ≤ n) × (n ≡ blocksOf plan) × NoneBelow (brokenAt plan) b
+
+abbrev μ-loop : tie.MeasureT-loop
+μ-loop plan n b₀ b = n - b
+
+cast-n : tie.Need-cast-n Inv-loop μ-loop
+cast-n c = search needs
+
+loop-holds : tie.Need-loop-holds Inv-loop μ-loop
+loop-holds c = (search needs, search needs, none-zero _)
+
+is-broken-requires : tie.Need-is-broken-requires Inv-loop μ-loop
+is-broken-requires c κs = search needs
+
+returns : tie.Need-returns Inv-loop μ-loop
+returns c = λ e. absurd (true-not-false e refl)
+
+add-b : tie.Need-add-b Inv-loop μ-loop
+add-b c = search needs
+
+loop-less : tie.Need-loop-less Inv-loop μ-loop
+loop-less c = search needs
+
+loop-again : tie.Need-loop-again Inv-loop μ-loop
+loop-again c = (search needs, search needs, none-more _ (c .before .before .before .loop .inv .2) (sym (c .before .is-broken .ensures) ∙ c .if1 .left))
+
+returns-2 : tie.Need-returns-2 Inv-loop μ-loop
+returns-2 c = λ e. none-broken (c .before .before .before .args .plan .now) (λ b l. c .before .loop .inv .2 b (omega arith))
+
+pub is-right-spec : {M : Type 1} → statement M
+is-right-spec =
+    tie.close
+    (tie.spec
+    Inv-loop
+    μ-loop
+    cast-n
+    loop-holds
+    is-broken-requires
+    returns
+    add-b
+    loop-less
+    loop-again
+    returns-2)
