@@ -1,20 +1,21 @@
 -- Where the doses of a position begin, by where those of the position ahead end; and the list of what each position needs.
 -- Assumes nothing.
-use Prim.Native.Nat.{ℕ, _+_, _-_, _≤_, _<_, min}
-use mathlib.Core.Bool.{true, false}
+use Prim.Native.Nat.{ℕ, _+_, _-_, _%_, _≤_, _<_, min}
+use mathlib.Core.Bool.{true, false, cond}
 use mathlib.Core.List.{List}
 use mathlib.Core.Logic.{⊎-elim}
-use mathlib.Core.Path.{_≡_, _∙_}
+use mathlib.Core.Path.{_≡_, sym, ap, _∙_}
+use native.Mathlib.Nat.{mod-lt, mod-eq-of-lt, mod-self, mod-le, mod-add-mod}
 use native.Mathlib.Omega.{arith}
 use lib.Dec.{eqb}
 use lib.ListN.{getD, set, replicate, length-replicate, length-set}
 use lib.Seq.{getD-set-same, getD-set-other}
 use borrow.Author.Count.{below-more}
-use borrow.Author.Tests.{eqb-false, ne-eqb}
+use borrow.Author.Tests.{eqb-true, eqb-false, ne-eqb}
 use Rattle.below.proofs.Tests.{bool-cases}
 use Rattle.doses.specs.Doses.{positionOf}
-use Rattle.plan.specs.Fields.{intervalOf}
-use Rattle.supply.specs.Capped.{cap, From, lowestAt, needAt, Placed, Listed}
+use Rattle.plan.specs.Fields.{intervalOf, firstOf}
+use Rattle.supply.specs.Capped.{cap, From, lowestAt, needAt, Placed, positionBehind, Listed}
 use Rattle.supply.specs.declared.today.Today.{Today}
 
 lowest-none : (x : ℕ) → x ≤ 1 → lowestAt x ≡ 0
@@ -66,3 +67,47 @@ position-some r d =
     (λ (t : eqb (intervalOf r) 0 ≡ true). rw t (omega arith))
     (λ (t : eqb (intervalOf r) 0 ≡ false). rw t (omega arith))
     (bool-cases (eqb (intervalOf r) 0))
+
+-- and none has one past the days from 0 to it
+pub position-small : (r : List ℕ) (d : ℕ) → positionOf r d ≤ d + 1
+unfolding positionOf
+position-small r d =
+    ⊎-elim
+    (λ (t : eqb (intervalOf r) 0 ≡ true). rw t (omega arith))
+    (λ (t : eqb (intervalOf r) 0 ≡ false). rw t (omega (arith, mod-le (d - firstOf r) (intervalOf r))))
+    (bool-cases (eqb (intervalOf r) 0))
+
+-- the next day's position, without a remainder
+behind-mod : (s k : ℕ) → 0 < k → (s + 1) % k + 1 ≡ positionBehind k (s % k + 1)
+behind-mod s k l =
+    ⊎-elim
+    (λ (t : eqb (s % k + 1) k ≡ true).
+    let q : (s + 1) % k ≡ 0 = sym (mod-add-mod s k 1) ∙ ap (λ (x : ℕ). x % k) (eqb-true _ _ t) ∙ mod-self k in
+    rw t (omega (arith, q)))
+    (λ (t : eqb (s % k + 1) k ≡ false).
+    let n = eqb-false (s % k + 1) k t in
+    let q : (s + 1) % k ≡ s % k + 1 = sym (mod-add-mod s k 1) ∙ mod-eq-of-lt (omega (arith, n, mod-lt s l)) in
+    rw t (omega (arith, q)))
+    (bool-cases (eqb (s % k + 1) k))
+
+pub position-behind : (r : List ℕ) (d : ℕ) → firstOf r ≤ d → positionOf r (d + 1) ≡ positionBehind (intervalOf r) (positionOf r d)
+unfolding positionOf
+position-behind r d l =
+    let e : d + 1 - firstOf r ≡ d - firstOf r + 1 = omega arith in
+    rw e
+    (⊎-elim
+    (λ (t : eqb (intervalOf r) 0 ≡ true).
+    let z = eqb-true (intervalOf r) 0 t in
+    let n = ne-eqb (d - firstOf r + 1) (intervalOf r) (λ q. omega (arith, z)) in
+    rw (t, n))
+    (λ (t : eqb (intervalOf r) 0 ≡ false).
+    let n = eqb-false (intervalOf r) 0 t in
+    rw t (behind-mod (d - firstOf r) (intervalOf r) (omega (arith, n))))
+    (bool-cases (eqb (intervalOf r) 0)))
+
+pub behind-some : (k x : ℕ) → 0 < positionBehind k x
+behind-some k x =
+    ⊎-elim
+    (λ (t : eqb x k ≡ true). rw t (omega arith))
+    (λ (t : eqb x k ≡ false). rw t (omega arith))
+    (bool-cases (eqb x k))

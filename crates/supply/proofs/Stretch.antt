@@ -7,7 +7,7 @@ use mathlib.Core.Logic.{⊎-elim}
 use mathlib.Core.Path.{_≡_, refl, sym, ap, _∙_}
 use native.Mathlib.Omega.{arith}
 use lib.Dec.{eqb}
-use borrow.Author.Tests.{eqb-true, not-false}
+use borrow.Author.Tests.{eqb-true, leb-true, not-false}
 use Rattle.below.proofs.Lists.{sum-join}
 use Rattle.below.proofs.Search.{first-facts, any-not}
 use Rattle.below.proofs.Tests.{bool-cases, and-both, true-not-false, not-true-false}
@@ -17,11 +17,12 @@ use Rattle.below.specs.Lists.{sumOver}
 use Rattle.doses.specs.Doses.{covers, positionOf, applies, dosesOfPeriod, dosesOn}
 use Rattle.pause.specs.Pauses.{isPaused}
 use Rattle.pause.specs.declared.Pause.{Pause}
-use Rattle.plan.specs.Fields.{intervalOf, isMarked}
+use Rattle.plan.specs.Fields.{intervalOf, firstOf, isMarked}
 use Rattle.plan.specs.Periods.{blocksOf, blockAt, isPeriod, dosesOf, doseIn, hasUnmarked, hasMarked, classBy, classOf, fixed, mixed}
-use Rattle.supply.specs.Capped.{cap, Sorted, supplies, needAt, Orderly, Steady, dueOn, Stands, Listed, Known}
+use Rattle.supply.specs.Capped.{cap, Sorted, supplies, needAt, Orderly, Steady, dueOn, positionBehind, Stands, Listed, Known}
 use Rattle.supply.specs.Need.{chosen, needOn, isSupplied}
 use Rattle.supply.specs.declared.today.Today.{Today}
+use Rattle.supply.proofs.Placing.{position-behind}
 use Rattle.supply.proofs.Range.{sum-flat, period-sum}
 
 -- a sum with one term at most
@@ -113,6 +114,13 @@ found-sorted p o d {b} f l =
     let c = and-both (covers p d b) (isSupplied p b) (x .here l) .0 in
     o .sorted b l (and-both (isPeriod p b) _ c .0)
 
+-- and has begun
+pub found-began : (p : List ℕ) (d : ℕ) {b : ℕ} → b ≡ firstBelow (blocksOf p) (supplies p d) → b < blocksOf p → firstOf (blockAt p b) ≤ d
+found-began p d {b} f l =
+    let x = rw (← f) at (first-facts (supplies p d) (blocksOf p)) in
+    let c = and-both (covers p d b) (isSupplied p b) (x .here l) .0 in
+    leb-true _ _ (and-both _ _ (and-both (isPeriod p b) _ c .1) .0)
+
 -- with interval 1 each day has position 1
 every-day : (r : List ℕ) (d e : ℕ) → intervalOf r ≡ 1 → positionOf r e ≡ positionOf r d
 unfolding positionOf
@@ -128,13 +136,15 @@ module _ (choice : ℕ) (p : List ℕ) {d : ℕ} {t : Today} where
         same = λ q e a b. omega (arith, x .1, h e a (omega (arith, x .0)));
         few = omega (arith, x .3);
         placed = λ q. absurd (true-not-false q (x .2));
+        place-is = λ q. absurd (true-not-false q (x .2));
+        began = λ q. absurd (true-not-false q (x .2));
         one = λ q. absurd (true-not-false q (x .2));
       }
 
   -- days of a period
-  pub known-in : {b u : ℕ} → Stands choice p (positionOf (blockAt p b) d) b u (not (eqb (intervalOf (blockAt p b)) 1)) t × (t .listed ≤ 256) → d ≤ u →
+  pub known-in : {b u : ℕ} → Stands choice p (positionOf (blockAt p b) d) b u (not (eqb (intervalOf (blockAt p b)) 1)) t × (t .listed ≤ 256) → d ≤ u → firstOf (blockAt p b) ≤ d →
       ((e : ℕ) → d ≤ e → e ≤ u → dueOn choice p e ≡ needAt choice p b (positionOf (blockAt p b) e)) → Known choice p d t
-  known-in {b} {u} (s, f) l h =
+  known-in {b} {u} (s, f) l g h =
       record {
         today = s .need-is ∙ ap (min cap) (sym (h d (omega arith) l));
         same =
@@ -144,19 +154,26 @@ module _ (choice : ℕ) (p : List ℕ) {d : ℕ} {t : Today} where
             ap (min cap) (sym (h e m (omega (arith, s .until-is))));
         few = f;
         placed = λ q. s .placed;
+        place-is = λ q. rw (s .block) (s .place-is);
+        began = λ q. rw (s .block) g;
         one = λ q e m n. rw (s .block) (h e m (omega (arith, s .until-is)));
       }
 
   -- the next day
   module _ {r : Today} (k : Known choice p d t) (l : d + 1 ≤ t .until) where
     known-moves : t .varies ≡ true →
-        Stands choice p (positionOf (blockAt p (t .b)) (d + 1)) (t .b) (t .until) true r × (r .listed ≡ t .listed) → Known choice p (d + 1) r
-    known-moves v (s, f) =
+        Stands choice p (positionBehind (t .interval) (t .place)) (t .b) (t .until) true r × (r .listed ≡ t .listed) → Known choice p (d + 1) r
+    known-moves v (w, f) =
+        let x : positionBehind (t .interval) (t .place) ≡ positionOf (blockAt p (t .b)) (d + 1) =
+        rw (k .placed v .interval-is, k .place-is v) (sym (position-behind (blockAt p (t .b)) d (k .began v))) in
+        let s = rw x at w in
         record {
           today = s .need-is ∙ ap (min cap) (sym (k .one v (d + 1) (omega arith) l));
           same = λ q. absurd (true-not-false (s .varies-is) q);
           few = omega (arith, f, k .few);
           placed = λ q. s .placed;
+          place-is = λ q. rw (s .block) (s .place-is);
+          began = λ q. rw (s .block) (omega (arith, k .began v));
           one = λ q e m n. rw (s .block) (k .one v e (omega arith) (omega (arith, s .until-is)));
         }
 
@@ -168,10 +185,12 @@ module _ (choice : ℕ) (p : List ℕ) {d : ℕ} {t : Today} where
           same = λ q e m n. k .same q e (omega arith) n;
           few = k .few;
           placed = k .placed;
+          place-is = λ q. absurd (true-not-false q v);
+          began = λ q. absurd (true-not-false q v);
           one = λ q e m n. k .one q e (omega arith) n;
         })
 
-    pub known-on : (t .varies ≡ true → Stands choice p (positionOf (blockAt p (t .b)) (d + 1)) (t .b) (t .until) true r × (r .listed ≡ t .listed)) →
+    pub known-on : (t .varies ≡ true → Stands choice p (positionBehind (t .interval) (t .place)) (t .b) (t .until) true r × (r .listed ≡ t .listed)) →
         (t .varies ≡ false → r ≡ t) → Known choice p (d + 1) r
     known-on f g = ⊎-elim (λ v. known-moves v (f v)) (λ v. known-stays v (g v)) (bool-cases (t .varies))
 
@@ -187,11 +206,11 @@ listed-on choice p {t = t} {r = r} k f g q =
     (bool-cases (t .varies))
 
 -- a paused day needs nothing
-pub with-pauses : (choice : ℕ) (p : List ℕ) (ps : List Pause) (d : ℕ) {due need : ℕ} → due ≡ min cap (dueOn choice p d) →
-    need ≡ cond (isPaused ps d) 0 due → need ≡ min cap (needOn choice p ps d)
+pub with-pauses : (choice : ℕ) (p : List ℕ) (ps : List Pause) (d : ℕ) {due need : ℕ} {paused : Bool} → due ≡ min cap (dueOn choice p d) →
+    paused ≡ isPaused ps d → need ≡ cond paused 0 due → need ≡ min cap (needOn choice p ps d)
 unfolding needOn
-with-pauses choice p ps d {due} e f =
+with-pauses choice p ps d {due} e g f =
     ⊎-elim
-    (λ (t : isPaused ps d ≡ true). rw t (rw t at f))
-    (λ (t : isPaused ps d ≡ false). rw t ((rw t at f) ∙ e))
+    (λ (t : isPaused ps d ≡ true). rw t (rw (g, t) at f))
+    (λ (t : isPaused ps d ≡ false). rw t ((rw (g, t) at f) ∙ e))
     (bool-cases (isPaused ps d))

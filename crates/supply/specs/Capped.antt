@@ -9,8 +9,12 @@ use lib.ListN.{length, getD}
 use Rattle.below.specs.Below.{sumBelow}
 use Rattle.below.specs.Lists.{sumOver}
 use Rattle.doses.specs.Doses.{covers, positionOf, applies, dosesOn}
+use Rattle.pause.specs.Pauses.{isPaused}
+use Rattle.pause.specs.declared.Pause.{Pause}
+use Rattle.plan.specs.Fields.{intervalOf, firstOf}
 use Rattle.plan.specs.Periods.{blocksOf, blockAt, isPeriod, dosesOf, doseIn}
 use Rattle.supply.specs.declared.today.Today.{Today}
+use Rattle.supply.specs.declared.until.Spell.{Spell}
 use Rattle.supply.specs.Need.{chosen, isSupplied}
 
 -- one more than the largest pack
@@ -50,17 +54,28 @@ pub record Orderly (p : List ℕ) : Type 0 where
 abbrev pub Steady : (ℕ → Bool) → ℕ → ℕ → Type 0
 Steady test d u = (e : ℕ) → d ≤ e → e ≤ u → test e ≡ test d
 
+-- s says whether day d is paused, and up to which day the days are as it is
+pub record Told (ps : List Pause) (d : ℕ) (s : Spell) : Type 0 where
+  pub paused-is : s .paused ≡ isPaused ps d
+  pub steady : Steady (isPaused ps) d (s .until)
+
 -- t stands in the doses of its period, behind those of its position
 pub record Placed (p : List ℕ) (t : Today) : Type 0 where
   pub sorted : Sorted p (t .b)
   pub all : t .doses ≡ dosesOf p (t .b)
+  pub interval-is : t .interval ≡ intervalOf (blockAt p (t .b))
   pub behind : From p (t .b) (t .doses) (t .position + 1) (t .behind)
+
+-- the position of the day behind one at position x, in rounds of k days; k is 0 where there are none
+abbrev pub positionBehind : ℕ → ℕ → ℕ
+positionBehind k x = cond (eqb x k) 1 (x + 1)
 
 -- t is what the period at block b has at position x
 pub record Stands (choice : ℕ) (p : List ℕ) (x b until : ℕ) (varies : Bool) (t : Today) : Type 0 where
   pub block : t .b ≡ b
   pub until-is : t .until ≡ until
   pub varies-is : t .varies ≡ varies
+  pub place-is : t .place ≡ x
   pub need-is : t .due ≡ min cap (needAt choice p b x)
   pub placed : Placed p t
 
@@ -79,5 +94,7 @@ pub record Known (choice : ℕ) (p : List ℕ) (d : ℕ) (t : Today) : Type 0 wh
   pub same : t .varies ≡ false → (e : ℕ) → d ≤ e → e ≤ t .until → t .due ≡ min cap (dueOn choice p e)
   pub few : t .listed ≤ 256
   pub placed : t .varies ≡ true → Placed p t
+  pub place-is : t .varies ≡ true → t .place ≡ positionOf (blockAt p (t .b)) d
+  pub began : t .varies ≡ true → firstOf (blockAt p (t .b)) ≤ d
   pub one : t .varies ≡ true → (e : ℕ) → d ≤ e → e ≤ t .until →
       dueOn choice p e ≡ needAt choice p (t .b) (positionOf (blockAt p (t .b)) e)

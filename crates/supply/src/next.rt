@@ -4,14 +4,10 @@ use crate::need::due_at;
 use crate::need::first_from;
 use crate::need::lowest_at;
 use crate::today::Today;
-use doses::position_of;
-use plan::block_of;
 ghost use mathlib.Core.Path.{_≡_};
 ghost use mathlib.Core.Bool.{true, false};
 ghost use Prim.Native.Nat.{_≤_};
-ghost use Rattle.doses.specs.Doses.{positionOf};
-ghost use Rattle.plan.specs.Periods.{blockAt};
-ghost use Rattle.supply.specs.Capped.{From, lowestAt, Placed, Stands, Listed};
+ghost use Rattle.supply.specs.Capped.{From, lowestAt, Placed, positionBehind, Stands, Listed};
 
 // What each position below `listed` needs.
 pub(crate) fn needs_of(plan: &[u8], choice: u32, t: Today) -> [u64; 256]
@@ -61,6 +57,8 @@ fn moved(plan: &[u8], choice: u32, position: u64, t: Today) -> Today
         due: due.need,
         varies: true,
         b: t.b,
+        interval: t.interval,
+        place: position,
         doses: t.doses,
         position,
         behind: due.behind,
@@ -68,21 +66,34 @@ fn moved(plan: &[u8], choice: u32, position: u64, t: Today) -> Today
     }
 }
 
+// The position of the day behind: it rises, and begins again where a round ends. A remainder would take longer.
+fn place_behind(interval: u64, place: u64) -> u64
+    requires { ⌜ place ≤ 4294967296 ⌝ }
+    ensures { λ r. ⌜ r ≡ positionBehind interval place ⌝ }
+{
+    if place == interval {
+        return 1;
+    }
+    place + 1
+}
+
 // The day behind that of t.
-pub(crate) fn next_day(plan: &[u8], choice: u32, day: u32, t: Today, needs: &[u64; 256]) -> Today
+pub(crate) fn next_day(plan: &[u8], choice: u32, t: Today, needs: &[u64; 256]) -> Today
     requires { ⌜ (t .varies ≡ true → Placed (now plan) t) ⌝ }
     requires { ⌜ (t .varies ≡ true → Listed choice (now plan) (t .b) (t .listed) (now needs)) ⌝ }
     requires { ⌜ t .listed ≤ 256 ⌝ }
-    ensures { λ r. ⌜ (t .varies ≡ true → Stands choice (now (plan .entry)) (positionOf (blockAt (now (plan .entry)) (t .b)) day) (t .b) (t .until) true r × (r .listed ≡ t .listed)) × (t .varies ≡ false → r ≡ t) ⌝ }
+    requires { ⌜ (t .varies ≡ true → t .place ≤ 4294967296) ⌝ }
+    ensures { λ r. ⌜ (t .varies ≡ true → Stands choice (now (plan .entry)) (positionBehind (t .interval) (t .place)) (t .b) (t .until) true r × (r .listed ≡ t .listed)) × (t .varies ≡ false → r ≡ t) ⌝ }
 {
     if !t.varies {
         return t;
     }
-    let position = position_of(block_of(plan, t.b as u16), day);
-    if position < (t.listed as u64) {
+    let place = place_behind(t.interval, t.place);
+    if place < (t.listed as u64) {
         let mut r = t;
-        r.due = needs[position as usize];
+        r.place = place;
+        r.due = needs[place as usize];
         return r;
     }
-    moved(plan, choice, position, t)
+    moved(plan, choice, place, t)
 }

@@ -23,13 +23,15 @@ ghost use Rattle.supply.specs.Need.{isSupplied};
 ghost use Rattle.supply.specs.Capped.{Sorted, supplies, Orderly, Stands, Known};
 
 // What the doses of a day need, pauses apart. Up to day `until` the days are in the same periods. Where what is due varies among
-// them, they are the days of the fixed or mixed period at block b; dose `behind` is the one behind the doses of `position`, and
-// what positions below `listed` need is worked out once.
+// them, they are the days of the fixed or mixed period at block b, in rounds of `interval` days, and the day at hand is at position
+// `place`. Dose `behind` is the one behind the doses of `position`, and what positions below `listed` need is worked out once.
 pub(crate) struct Today {
     pub until: u32,
     pub due: u64,
     pub varies: bool,
     pub b: u8,
+    pub interval: u64,
+    pub place: u64,
     pub doses: u16,
     pub position: u64,
     pub behind: u16,
@@ -80,6 +82,8 @@ fn nothing_until(until: u32) -> Today
         due: 0,
         varies: false,
         b: 0,
+        interval: 0,
+        place: 0,
         doses: 0,
         position: 0,
         behind: 0,
@@ -116,6 +120,8 @@ fn in_period(plan: &[u8], choice: u32, day: u32, until: u32, b: u8) -> Today
         due: due.need,
         varies,
         b,
+        interval: interval as u64,
+        place: position,
         doses,
         position,
         behind: due.behind,

@@ -4,8 +4,8 @@ use crate::next::needs_of;
 use crate::next::next_day;
 use crate::today::is_supplied;
 use crate::today::on_day;
+use crate::until::spell_on;
 use pause::Pause;
-use pause::paused_today;
 use plan::block_of;
 use plan::last_of;
 ghost use mathlib.Core.Path.{_≡_};
@@ -13,7 +13,6 @@ ghost use Prim.Native.Nat.{_+_, _-_, _≤_, _<_, max};
 ghost use mathlib.Core.Bool.{cond};
 ghost use lib.Dec.{eqb};
 ghost use Rattle.day.specs.Days.{openMark};
-ghost use Rattle.pause.specs.Pauses.{isPaused};
 ghost use Rattle.supply.specs.Need.{needOn, stopDay, hasStop};
 ghost use Rattle.supply.specs.Supply.{lastingOf};
 ghost use Rattle.supply.specs.Capped.{cap, Orderly};
@@ -67,10 +66,10 @@ fn last_of_days(start: u32, n: u32) -> u32
 }
 
 // What a day needs whose doses need so much: nothing if it is paused.
-fn need_today(at: [Pause; 32], day: u32, due: u64) -> u64
-    ensures { λ r. ⌜ r ≡ cond (isPaused at day) 0 due ⌝ }
+fn need_today(paused: bool, due: u64) -> u64
+    ensures { λ r. ⌜ r ≡ cond paused 0 due ⌝ }
 {
-    if paused_today(at, day) {
+    if paused {
         return 0;
     }
     due
@@ -91,10 +90,11 @@ pub(crate) fn lasting(
 {
     let mut n: u32 = 0;
     let mut rest = pack;
+    let mut spell = spell_on(at, start);
     let mut t = on_day(plan, choice, start);
     let mut needs = needs_of(plan, choice, t);
     while n <= stop - start {
-        let need = need_today(at, start + n, t.due);
+        let need = need_today(spell.paused, t.due);
         if rest < need {
             return Lasting {
                 days: n,
@@ -105,12 +105,15 @@ pub(crate) fn lasting(
         }
         rest -= need;
         n += 1;
+        if spell.until < start + n {
+            spell = spell_on(at, start + n);
+        }
         if t.until < start + n {
             t = on_day(plan, choice, start + n);
             let list = needs_of(plan, choice, t);
             needs = list;
         } else {
-            t = next_day(plan, choice, start + n, t, &needs);
+            t = next_day(plan, choice, t, &needs);
         }
     }
     Lasting {

@@ -32,6 +32,9 @@ due-at-requires c κs =
     let e = c .before .lowest-at .ensures in
     (c .before .before .before .before .before .before .before .before .pre, (c .before .before .doses-of .ensures .0, rw e at (c .first-from .ensures)))
 
+cast-t16 : tie.Need-cast-t16
+cast-t16 c = search needs
+
 returns : tie.Need-returns
 returns c =
     let a = c .before .before .before .before .before .before .before .before .before in
@@ -43,8 +46,9 @@ returns c =
         block = search needs;
         until-is = search needs;
         varies-is = rw i;
+        place-is = x;
         need-is = rw (← x) (c .due-at .ensures .0);
-        placed = record { sorted = a .pre; all = c .before .before .before .doses-of .ensures .0; behind = c .due-at .ensures .1 };
+        placed = record { sorted = a .pre; all = c .before .before .before .doses-of .ensures .0; interval-is = i; behind = c .due-at .ensures .1 };
       },
       c .before .before .before .before .before .listed-of .ensures,
     )
@@ -61,4 +65,5 @@ in-period-spec =
     lowest-at-requires
     first-from-requires
     due-at-requires
+    cast-t16
     returns)

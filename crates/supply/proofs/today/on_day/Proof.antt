@@ -1,5 +1,5 @@
 use borrow.Author.Needs.{needs}
-use Rattle.supply.proofs.Stretch.{out-needs, in-needs, found-sorted, known-nothing, known-in}
+use Rattle.supply.proofs.Stretch.{out-needs, in-needs, found-sorted, found-began, known-nothing, known-in}
 use Rattle.supply.proofs.today.on_day.Statement.{statement}
 use Rattle.supply.proofs.today.on_day.Tie as tie
 
@@ -19,7 +19,7 @@ returns : tie.Need-returns
 returns c =
     let a = c .before .before .before .before .before in
     let w = c .before .before .before .periods-until .ensures in
-    known-in _ _ (c .in-period .ensures) (w .0)
+    known-in _ _ (c .in-period .ensures) (w .0) (found-began _ _ (c .before .before .supplying-on .ensures) (c .before .if1 .taken))
     (in-needs (a .args .choice) (a .args .plan .now) (a .pre) (w .1) (c .before .before .supplying-on .ensures) (c .before .if1 .taken))
 
 nothing-until-requires : tie.Need-nothing-until-requires
