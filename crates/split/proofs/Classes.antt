@@ -1,47 +1,16 @@
--- The classes of the periods, worked out one by one, and what is asked by them. Assumes nothing.
+-- What is asked by the classes of the periods. Assumes nothing.
 use Prim.Native.Nat.{ℕ, _+_, _≤_, _<_}
 use mathlib.Core.Bool.{Bool, true, false, cond, not, _&&_, _||_}
 use mathlib.Core.List.{List, [], _∷_, _++_}
 use mathlib.Core.Path.{_≡_, refl, sym, ap, _∙_}
-use native.Mathlib.Omega.{arith}
 use lib.Dec.{eqb, leb, ltb}
-use lib.ListN.{length, getD, set, length-set}
-use lib.Seq.{getD-set-same, getD-set-other}
 use borrow.Author.Count.{below-more}
 use borrow.Author.Tests.{lt-ltb, le-ltb, le-leb, lt-leb}
-use Rattle.below.proofs.Tests.{true-not-false}
 use Rattle.plan.specs.Fields.{firstOf, lastOf}
 use Rattle.plan.specs.Periods.{blocksOf, blockAt, isPeriod, empty, mixed, classOf}
-use Rattle.verdict.specs.Ready.{Classed}
 use Rattle.split.specs.Parts.{isDosedIn, dosedPeriod, nextDosed, runFirst, runLast, sharesRun, sharedIn, behind, broughtBy}
-use Rattle.split.specs.Adding.{ClassedTo, ownClass, isOther}
+use Rattle.split.specs.Adding.{ownClass, isOther}
 use Rattle.split.proofs.Adding.{dosed-is}
-
-pub classed-none : (p cs : List ℕ) → length cs ≡ 32 → ClassedTo p 0 cs
-classed-none p cs n = record { long = n; entry = λ c l. absurd (omega arith) }
-
-module _ {p cs : List ℕ} {b : ℕ} (s : ClassedTo p b cs) where
-  -- no period begins at block b
-  pub classed-past : isPeriod p b ≡ false → ClassedTo p (b + 1) cs
-  classed-past past =
-      record {
-        long = s .long;
-        entry = below-more (λ (c : ℕ). isPeriod p c ≡ true → getD cs c 0 ≡ classOf p c) b (s .entry) (λ e. absurd (true-not-false e past));
-      }
-
-  -- one does
-  pub classed-new : {x : ℕ} → b < 32 → x ≡ classOf p b → ClassedTo p (b + 1) (set cs b x)
-  classed-new {x} l e =
-      record {
-        long = length-set cs b x ∙ s .long;
-        entry =
-            below-more (λ (c : ℕ). isPeriod p c ≡ true → getD (set cs b x) c 0 ≡ classOf p c) b
-            (λ c m t. rw (getD-set-other cs b c x 0 (λ (z : c ≡ b). omega arith)) (s .entry c m t))
-            (λ t. getD-set-same cs b x 0 (rw (s .long) l) ∙ e);
-      }
-
-  pub classed-all : blocksOf p ≤ b → blocksOf p ≤ 32 → Classed p cs
-  classed-all all few = record { few = few; entry = λ c l t. s .entry c (omega arith) t }
 
 -- what is asked of a class that is right where a period begins
 same-and : (t : Bool) (f g : Bool) → (t ≡ true → f ≡ g) → (t && f) ≡ (t && g)

@@ -17,11 +17,6 @@ use Rattle.writer.specs.declared.Place.{Place}
 use Rattle.writer.specs.Holds.{Holds}
 use Rattle.split.specs.Parts.{isOfPart}
 
--- entry c of the list is the class of the period at block c, for those ahead of block b
-pub record ClassedTo (p : List ℕ) (b : ℕ) (cs : List ℕ) : Type 0 where
-  pub long : length cs ≡ 32
-  pub entry : (c : ℕ) → c < b → isPeriod p c ≡ true → getD cs c 0 ≡ classOf p c
-
 -- the class that has doses of the part alone
 abbrev pub ownClass : Bool → ℕ
 ownClass marked = cond marked need fixed

@@ -1,4 +1,4 @@
-// One part of an accepted plan, written period by period. The classes of all periods are worked out once and lent as `cs`:
+// One part of an accepted plan, written period by period. The classes of all periods come with the verdict and are lent as `cs`:
 // entry b is that of the period at block b.
 use crate::copying::add_kept;
 use block::put_bytes;
@@ -6,7 +6,6 @@ use layout::Header;
 use layout::head_of;
 use layout::header_at;
 use plan::block_of;
-use plan::class_of;
 use plan::doses_here;
 use plan::doses_of;
 use plan::first_of;
@@ -29,30 +28,8 @@ ghost use Rattle.layout.specs.Reading.{dosesAt};
 ghost use Rattle.verdict.specs.Ready.{Classed};
 ghost use Rattle.verdict.specs.Verdict.{planLimit};
 ghost use Rattle.split.specs.Parts.{isDosedIn, isOfPart, dosedPeriod, nextDosed, runFirst, sharesRun, shared, sharedBy, sharedIn, behind, broughtBy, partOf, partBytes};
-ghost use Rattle.split.specs.Adding.{ClassedTo, ownClass, isOther, isAlone, HasRoom, Adds, AddsDoses};
+ghost use Rattle.split.specs.Adding.{ownClass, isOther, isAlone, HasRoom, Adds, AddsDoses};
 ghost use Rattle.split.specs.Split.{over};
-
-// Puts the class of the period at block b, if one begins there.
-fn put_class(cs: &mut [u8; 32], plan: &[u8], b: u8)
-    requires { ⌜ (b < 32) × ClassedTo (now plan) b (now cs) ⌝ }
-    ensures { λ _. ⌜ ClassedTo (now (plan .entry)) (b + 1) (now (cs .exit)) ⌝ }
-{
-    if !is_period(plan, b) {
-        return;
-    }
-    cs[b as usize] = class_of(plan, b);
-}
-
-// The classes of all periods. They stay in the array that is lent: to hand it on by value would wait for the bytes just stored.
-pub(crate) fn put_classes(cs: &mut [u8; 32], plan: &[u8])
-    requires { ⌜ (blocksOf (now plan) ≤ 32) × (length (now cs) ≡ 32) ⌝ }
-    ensures { λ _. ⌜ Classed (now (plan .entry)) (now (cs .exit)) ⌝ }
-{
-    let n = (plan.len() / 512) as u8;
-    for b in 0..n {
-        put_class(&mut *cs, plan, b);
-    }
-}
 
 // The class that has doses of the part alone: fixed or need.
 fn own_class(marked: bool) -> u8

@@ -2,9 +2,6 @@ use borrow.Author.Needs.{needs}
 use Rattle.split.proofs.write_parts.Statement.{statement}
 use Rattle.split.proofs.write_parts.Tie as tie
 
-put-classes-requires : tie.Need-put-classes-requires
-put-classes-requires c κs = search needs
-
 write-part-requires : tie.Need-write-part-requires
 write-part-requires c κs = search needs
 
@@ -18,15 +15,9 @@ same-length-2 : tie.Need-same-length-2
 same-length-2 c = search needs
 
 returns : tie.Need-returns
-returns c = (rw (c .before .before .before .before .before .before .before .write-part .ensures .1, c .before .before .write-part2 .ensures .1), search needs)
+returns c = (rw (c .before .before .before .before .before .before .write-part .ensures .1, c .before .before .write-part2 .ensures .1), search needs)
 
 pub write-parts-spec : {M : Type 1} → statement M
 write-parts-spec =
     tie.close
-    (tie.spec
-    put-classes-requires
-    write-part-requires
-    write-part-requires-2
-    same-length
-    same-length-2
-    returns)
+    (tie.spec write-part-requires write-part-requires-2 same-length same-length-2 returns)
