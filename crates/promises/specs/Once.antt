@@ -3,6 +3,7 @@
 use Prim.Native.Nat.{ℕ}
 use mathlib.Core.List.{List}
 use mathlib.Core.Path.{_≡_}
+use Rattle.block.specs.declared.Longs.{Longs}
 use Rattle.day.specs.Days.{Shows}
 use Rattle.day.specs.declared.Date.{Date}
 use Rattle.day.specs.declared.Day.{Day}
@@ -15,6 +16,8 @@ use Rattle.register.specs.Paper.{released, stated}
 use Rattle.register.specs.Steps.{Call, nothingBut, Called}
 use Rattle.register.specs.declared.Released.{Released}
 use Rattle.register.specs.declared.State.{State}
+use Rattle.verdict.specs.declared.Answer.{Answer}
+use Rattle.verdict.specs.declared.Classes.{Classes}
 
 pub record Once : Type 0 where
   -- day: `date_of`
@@ -22,8 +25,12 @@ pub record Once : Type 0 where
   -- day: `Day::new`, `first`, `last`, `open` and `closed` say the number; `Date::new` says its three fields
   pub day : (n : ℕ) (x y : Day) → x .number ≡ n → y .number ≡ n → x ≡ y
   pub date : (y m d : ℕ) (a b : Date) → (a .year ≡ y) × (a .month ≡ m) × (a .day ≡ d) → (b .year ≡ y) × (b .month ≡ m) × (b .day ≡ d) → a ≡ b
+  -- block: `longs_at` says its three numbers
+  pub longs : (a b c : ℕ) (x y : Longs) → (x .first ≡ a) × (x .second ≡ b) × (x .third ≡ c) → (y .first ≡ a) × (y .second ≡ b) × (y .third ≡ c) → x ≡ y
   -- period: `judge_period` says rule and class
   pub judged : (rule class : ℕ) (x y : Judged) → (x .rule ≡ rule) × (x .class ≡ class) → (y .rule ≡ rule) × (y .class ≡ class) → x ≡ y
+  -- verdict: `verdict_with_classes` says answer and classes
+  pub classes : (a : Answer) (cs : List ℕ) (x y : Classes) → (x .answer ≡ a) × (x .classes ≡ cs) → (y .answer ≡ a) × (y .classes ≡ cs) → x ≡ y
   -- pause: `unpack` and `collect` say count and pauses
   pub pauses : (n : ℕ) (at : List Pause) (x y : Pauses) → (x .count ≡ n) × (x .at ≡ at) → (y .count ≡ n) × (y .at ≡ at) → x ≡ y
   -- register: `clear`, `submit`, `sign` and `drop_plan`; `release`; `state_of`
