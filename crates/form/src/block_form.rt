@@ -52,13 +52,13 @@ fn record_out(record: &[u8]) -> bool
     ensures { λ t. ⌜ t ≡ recordOut (now («record» .entry)) ⌝ }
 {
     let x = longs_at(record, 0);
-    if time_out(x.first) {
-        return true;
-    }
     if 9999999999 < x.second {
         return true;
     }
-    9999999999 < x.third
+    if 9999999999 < x.third {
+        return true;
+    }
+    time_out(x.first)
 }
 
 // Dose record i of a block, handed on as a part of it.

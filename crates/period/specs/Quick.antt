@@ -13,7 +13,7 @@ use Rattle.period.specs.Doses.{isUntimed, badRange, unmarkedUpper}
 
 -- a dose's time as a number: the kind, then the minute of a clock dose, or the need mark where there is no time
 abbrev pub quickKey : Dose → ℕ
-quickKey d = d .kind * 65536 + cond (eqb (d .kind) 5) (d .minute) (cond (isUntimed d && isMarked d) 1 0) + 1
+quickKey d = d .kind * 65536 + cond (eqb (d .kind) 5) (d .minute) (cond (isUntimed d && isMarked d) 1 0)
 
 -- its place by day number, and then by time; the key is a number of 32 bits
 unfoldable pub quickRank : Dose → ℕ

@@ -21,7 +21,7 @@ ghost use Rattle.period.specs.Quick.{quickRank, quickBegun, quickTurned,
 // What the pass keeps of the doses that it has passed. It looks at nothing but the dose ahead, and ends with the first dose that is
 // out of turn.
 pub(crate) struct Quick {
-    // the rank of the last dose
+    // the rank of the last dose; before the first it is 0, which only an unmarked dose of day number 0 has, and rule 8 refuses that
     pub rank: u64,
     // ranks have risen, no range is wrong, and no amount is too large
     pub fine: bool,
@@ -69,7 +69,7 @@ fn upper_or_over(d: Dose) -> u64
 fn quick_rank(d: Dose) -> u64
     ensures { λ r. ⌜ r ≡ quickRank d ⌝ }
 {
-    let base = (d.day as u64) * 4294967296 + (d.kind as u64) * 65536 + 1;
+    let base = (d.day as u64) * 4294967296 + (d.kind as u64) * 65536;
     if d.kind == 0 {
         return base + pick64(is_marked(d), 1, 0);
     }

@@ -23,9 +23,6 @@ mul-base-2 c = search needs
 add-base : tie.Need-add-base
 add-base c = search needs
 
-add-base-2 : tie.Need-add-base-2
-add-base-2 c = search needs
-
 is-marked-requires : tie.Need-is-marked-requires
 is-marked-requires c κs = search needs
 
@@ -43,7 +40,7 @@ returns : tie.Need-returns
 unfolding quickRank
 returns c = let d = c .before .before .before .before .before .before .args .d in
     let zero : d .kind ≡ 0 = c .before .before .if1 .taken in
-    let key : quickKey d ≡ d .kind * 65536 + c .pick64 .result + 1 = rw (c .pick64 .ensures, c .before .is-marked .ensures, zero) in
+    let key : quickKey d ≡ d .kind * 65536 + c .pick64 .result = rw (c .pick64 .ensures, c .before .is-marked .ensures, zero) in
     let fit : min (quickKey d) 4294967295 ≡ quickKey d = omega (arith, key, one c) in
     rw (fit, key) (omega arith)
 
@@ -57,14 +54,14 @@ returns-2 : tie.Need-returns-2
 unfolding quickRank
 returns-2 c = let d = c .before .before .before .before .before .before .before .args .d in
     let clock : d .kind ≡ 5 = c .before .if2 .taken in
-    let key : quickKey d ≡ d .kind * 65536 + d .minute + 1 = rw clock in
+    let key : quickKey d ≡ d .kind * 65536 + d .minute = rw clock in
     let fit : min (quickKey d) 4294967295 ≡ quickKey d = omega (arith, key) in
     rw (fit, key) (omega arith)
 
 returns-3 : tie.Need-returns-3
 unfolding quickRank
 returns-3 c = let d = c .before .before .before .before .before .before .args .d in
-    let key : quickKey d ≡ d .kind * 65536 + 0 + 1 = rw (ne-eqb (d .kind) 5 (c .if2 .left), ne-eqb (d .kind) 0 (c .before .before .if1 .left)) in
+    let key : quickKey d ≡ d .kind * 65536 + 0 = rw (ne-eqb (d .kind) 5 (c .if2 .left), ne-eqb (d .kind) 0 (c .before .before .if1 .left)) in
     let fit : min (quickKey d) 4294967295 ≡ quickKey d = omega (arith, key) in
     rw (fit, key) (omega arith)
 
@@ -77,7 +74,6 @@ quick-rank-spec =
     cast-base-2
     mul-base-2
     add-base
-    add-base-2
     is-marked-requires
     pick64-requires
     add-result
