@@ -5,13 +5,12 @@ use mathlib.Core.List.{List}
 use mathlib.Core.Logic.{⊎-elim}
 use mathlib.Core.Path.{_≡_, refl, sym, _∙_}
 use native.Mathlib.Nat.{eq-or-lt-of-le}
-use native.Mathlib.Numerals.{add-one}
 use native.Mathlib.Omega.{arith}
 use lib.Dec.{eqb, leb, ltb}
 use borrow.Author.Count.{below-more}
-use borrow.Author.Tests.{eq-eqb, eqb-true, eqb-false, ne-eqb, ltb-true, ltb-false, lt-ltb, le-ltb, le-leb, leb-true, leb-false, not-true, not-false}
+use borrow.Author.Tests.{eq-eqb, eqb-true, eqb-false, ne-eqb, ltb-true, lt-ltb, le-ltb, le-leb, leb-true, leb-false, not-true, not-false}
 use Rattle.below.specs.Below.{anyBelow, countBelow, sumBelow, largestBelow}
-use Rattle.below.proofs.Search.{NoneBelow, any-zero, any-more, any-hit, any-none, any-not}
+use Rattle.below.proofs.Search.{NoneBelow, any-hit, any-none, any-not}
 use Rattle.below.proofs.Tests.{bool-cases, true-not-false, not-true-false, bool-iff, and-both, both-and, or-either, or-neither, neither-or, le-or-lt}
 use Rattle.below.proofs.Total.{count-zero, count-more, count-le, sum-zero, sum-more}
 use Rattle.plan.specs.declared.Dose.{Dose}

@@ -1,8 +1,7 @@
 -- The quick pass over a period's doses D 0, D 1, .., as the code makes it. No rule is stated here: proofs/QuickPass.antt shows that
 -- what it lets through breaks none.
-use Prim.Native.Nat.{ℕ, zero, suc, _+_, _*_, _/_, _≤_, _<_, min}
+use Prim.Native.Nat.{ℕ, _+_, _*_, _/_, _≤_, _<_, min}
 use mathlib.Core.Bool.{Bool, true, false, cond, not, _&&_, _||_}
-use mathlib.Core.List.{List}
 use mathlib.Core.Path.{_≡_}
 use lib.Dec.{eqb, leb, ltb}
 use Rattle.plan.specs.declared.Dose.{Dose}

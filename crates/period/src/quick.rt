@@ -9,7 +9,7 @@ use plan::dose_in;
 use plan::is_marked;
 ghost use mathlib.Core.Path.{_≡_};
 ghost use mathlib.Core.Bool.{true, false};
-ghost use Prim.Native.Nat.{ℕ, _+_, _*_, _≤_, _<_};
+ghost use Prim.Native.Nat.{_+_, _*_, _≤_, _<_};
 ghost use Rattle.below.specs.Below.{countBelow};
 ghost use Rattle.plan.specs.Fields.{isMarked, upperOf};
 ghost use Rattle.period.specs.Doses.{badRange};

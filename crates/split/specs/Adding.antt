@@ -1,10 +1,9 @@
 -- What the calls that write a part add to it, wherever the writing stands. No rule is stated here.
-use Prim.Native.Nat.{ℕ, _+_, _-_, _*_, _≤_, _<_}
-use mathlib.Core.Bool.{Bool, true, cond, not, _&&_}
+use Prim.Native.Nat.{ℕ, _+_, _-_, _*_, _≤_}
+use mathlib.Core.Bool.{Bool, cond, not, _&&_}
 use mathlib.Core.List.{List, [], _∷_, _++_}
-use mathlib.Core.Path.{_≡_}
 use lib.Dec.{eqb}
-use lib.ListN.{length, getD}
+use lib.ListN.{length}
 use Rattle.below.specs.Below.{anyBelow}
 use Rattle.below.specs.Lists.{listBelow, keep, joinOver}
 use Rattle.block.specs.Bytes.{put}

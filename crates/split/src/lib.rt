@@ -9,7 +9,6 @@ use verdict::refusal_of;
 use verdict::verdict_with_classes;
 ghost use mathlib.Core.Path.{_≡_};
 ghost use mathlib.Core.Bool.{true, false};
-ghost use mathlib.Core.List.{List};
 ghost use Rattle.form.specs.Form.{formOf};
 ghost use Rattle.form.specs.declared.Form.the-variants.{Right};
 ghost use Rattle.verdict.specs.Ready.{Classed};

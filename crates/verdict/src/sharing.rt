@@ -10,7 +10,7 @@ use plan::is_period;
 use plan::last_of;
 ghost use mathlib.Core.Path.{_≡_};
 ghost use mathlib.Core.Bool.{true, false};
-ghost use Prim.Native.Nat.{ℕ, _<_};
+ghost use Prim.Native.Nat.{_<_};
 ghost use Rattle.below.specs.Below.{firstBelow};
 ghost use Rattle.plan.specs.Periods.{blocksOf, isPeriod};
 ghost use Rattle.verdict.specs.Coverage.{mayShare, sharesWith, shares};
@@ -80,7 +80,8 @@ fn is_shared(plan: &[u8], cs: &[u8; 32], b: u8) -> bool
     false
 }
 
-// Rule 16: the first block that breaks it, or the number of blocks. Only where the walk is lost are all pairs compared.
+// Rule 16: the first block that breaks it, or the number of blocks. For plans that the walks of usual.rt do not let through: all
+// pairs are compared.
 pub(crate) fn first_shared(plan: &[u8], cs: &[u8; 32]) -> u8
     requires { ⌜ Classed (now plan) (now cs) ⌝ }
     ensures { λ r. ⌜ r ≡ firstBelow (blocksOf (now (plan .entry))) (shares (now (plan .entry))) ⌝ }

@@ -1,11 +1,10 @@
-use Prim.Native.Nat.{_+_, _-_, _*_, _≤_, _<_}
+use Prim.Native.Nat.{_-_, _*_, _≤_}
 use mathlib.Core.Bool.{true}
 use mathlib.Core.Path.{_≡_, sym, _∙_}
 use native.Mathlib.Omega.{arith}
-use lib.ListN.{length}
 use borrow.Author.Tests.{not-true, not-false}
 use Rattle.block.specs.Zeros.{zeroIn}
-use Rattle.block.proofs.Zeros.{zero-none, zero-next, part-not, byte-zero, byte-not, long-zero, long-not}
+use Rattle.block.proofs.Zeros.{zero-none, zero-next, part-not}
 use borrow.Author.Needs.{needs}
 use Rattle.block.proofs.read.are_chunks_zero.Statement.{statement}
 use Rattle.block.proofs.read.are_chunks_zero.Tie as tie

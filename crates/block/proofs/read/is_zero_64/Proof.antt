@@ -1,4 +1,3 @@
-use mathlib.Core.Path.{sym, _∙_}
 use Rattle.block.proofs.Zeros.{eight-longs}
 use borrow.Author.Needs.{needs}
 use Rattle.block.proofs.read.is_zero_64.Statement.{statement}

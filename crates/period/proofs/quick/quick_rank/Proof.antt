@@ -1,4 +1,4 @@
-use Prim.Native.Nat.{_+_, _*_, _≤_, _<_, min}
+use Prim.Native.Nat.{_+_, _*_, _≤_, min}
 use mathlib.Core.Path.{_≡_}
 use native.Mathlib.Omega.{arith}
 use borrow.Author.Tests.{ne-eqb}

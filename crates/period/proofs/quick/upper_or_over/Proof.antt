@@ -1,8 +1,6 @@
-use Prim.Native.Nat.{_≤_, _<_}
-use mathlib.Core.Path.{_≡_}
+use Prim.Native.Nat.{_<_}
 use native.Mathlib.Omega.{arith}
 use borrow.Author.Tests.{eq-eqb, ne-eqb, lt-ltb}
-use borrow.Author.Needs.{needs}
 use Rattle.period.proofs.quick.upper_or_over.Statement.{statement}
 use Rattle.period.proofs.quick.upper_or_over.Tie as tie
 

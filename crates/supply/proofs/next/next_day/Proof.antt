@@ -1,10 +1,7 @@
-use Prim.Native.Nat.{_<_}
-use mathlib.Core.Path.{_≡_}
 use native.Mathlib.Omega.{arith}
 use borrow.Author.Tests.{not-true, not-false}
 use borrow.Author.Needs.{needs}
 use Rattle.below.proofs.Tests.{true-not-false}
-use Rattle.supply.specs.Capped.{positionBehind}
 use Rattle.supply.proofs.Placing.{behind-some}
 use Rattle.supply.proofs.next.next_day.Statement.{statement}
 use Rattle.supply.proofs.next.next_day.Tie as tie

@@ -1,5 +1,4 @@
 use borrow.Author.Needs.{needs}
-use Rattle.supply.specs.Capped.{Told}
 use Rattle.supply.proofs.until.spell_on.Statement.{statement}
 use Rattle.supply.proofs.until.spell_on.Tie as tie
 
