@@ -1,8 +1,8 @@
--- Nine lanes, joined, come to the sums of the words one by one. Assumes nothing.
-use Prim.Native.Nat.{ℕ, zero, suc, _+_, _*_, _%_, _^_, _<_}
+-- Six lanes, joined, come to the sums of the words one by one. Assumes nothing.
+use Prim.Native.Nat.{ℕ, zero, suc, _+_, _-_, _*_, _%_, _^_, _≤_, _<_}
 use mathlib.Core.List.{List}
 use mathlib.Core.Path.{_≡_, refl, sym, ap, _∙_}
-use native.Mathlib.Nat.{suc-mul, not-suc-le-zero}
+use native.Mathlib.Nat.{suc-mul, mul-assoc, not-suc-le-zero}
 use native.Mathlib.Numerals.{add-one}
 use native.Mathlib.Omega.{arith}
 use Rattle.below.specs.Below.{sumBelow}
@@ -11,7 +11,7 @@ use lib.Seq.{getD-set-same, getD-set-other}
 use borrow.Author.Count.{below-more}
 use Rattle.below.proofs.Total.{sum-same, sum-both, sum-plus, sum-each}
 use Rattle.block.specs.Sums.{grown, summed, sumsOf}
-use Rattle.block.specs.Lanes.{wordOf, laneFirst, laneSecond, LaneIs, Laned, running}
+use Rattle.block.specs.Lanes.{wordOf, laneFirst, laneSecond, LaneIs, Laned, running, joinedBy}
 use Rattle.block.specs.Bytes.{wordAt}
 use Rattle.block.specs.declared.Sums.{Sums}
 use Rattle.block.proofs.Sealing.{summed-more}
@@ -25,12 +25,6 @@ drop-right a b = omega arith
 
 pub drop-both : (a b : ℕ) → (a % 2 ^ 32 + b % 2 ^ 32) % 2 ^ 32 ≡ (a + b) % 2 ^ 32
 drop-both a b = drop-left a (b % 2 ^ 32) ∙ drop-right a b
-
--- eight times a number, by doubling
-pub eight-times : (x : ℕ) → (((x + x) % 2 ^ 32 + (x + x) % 2 ^ 32) % 2 ^ 32 + ((x + x) % 2 ^ 32 + (x + x) % 2 ^ 32) % 2 ^ 32) % 2 ^ 32 ≡ 8 * x % 2 ^ 32
-eight-times x =
-    let e : x + x + (x + x) + (x + x + (x + x)) ≡ 8 * x = omega arith in
-    rw (drop-both (x + x) (x + x), drop-both (x + x + (x + x)) (x + x + (x + x)), e)
 
 -- the sums of n words with nothing dropped
 abbrev firstSum : (ℕ → ℕ) → ℕ → ℕ
@@ -75,8 +69,9 @@ sum-dropped x y (suc n) h =
     sym (drop-both (sumBelow n y) (y n)) ∙
     rw (sum-dropped x y n (λ m l. h m (omega arith)), h n (omega arith)) (drop-both (sumBelow n x) (x n))
 
-nine-dropped : (g : ℕ) → 9 * (g % 2 ^ 32) % 2 ^ 32 ≡ 9 * g % 2 ^ 32
-nine-dropped g = rw (← sum-each (g % 2 ^ 32) 9, ← sum-each g 9) (sum-dropped (λ k. g) (λ k. g % 2 ^ 32) 9 (λ m l. omega arith))
+-- a number may be dropped to 32 bits ahead of a product
+times-dropped : (k g : ℕ) → k * (g % 2 ^ 32) % 2 ^ 32 ≡ k * g % 2 ^ 32
+times-dropped k g = rw (← sum-each (g % 2 ^ 32) k, ← sum-each g k) (sum-dropped (λ i. g) (λ i. g % 2 ^ 32) k (λ m l. omega arith))
 
 -- one word behind n
 one : (t : Sums) (b : List ℕ) (k : ℕ) → summed t b k 1 ≡ grown t (wordAt b k)
@@ -108,48 +103,48 @@ second-plus w m n =
 
 module _ (w : ℕ → ℕ) where
   -- one turn more
-  lane-first-more : (i : ℕ) → sumBelow 9 (laneFirst w (suc i)) ≡ sumBelow 9 (laneFirst w i) + sumBelow 9 (λ k. w (i * 9 + k))
-  lane-first-more i = sum-same _ _ 9 (λ k l. sum-next (λ j. w (j * 9 + k)) i) ∙ sum-both (laneFirst w i) (λ k. w (i * 9 + k)) 9
+  lane-first-more : (i : ℕ) → sumBelow 6 (laneFirst w (suc i)) ≡ sumBelow 6 (laneFirst w i) + sumBelow 6 (λ k. w (i * 6 + k))
+  lane-first-more i = sum-same _ _ 6 (λ k l. sum-next (λ j. w (j * 6 + k)) i) ∙ sum-both (laneFirst w i) (λ k. w (i * 6 + k)) 6
 
-  lane-run-more : (i : ℕ) → secondSum (laneFirst w (suc i)) 9 ≡ secondSum (laneFirst w i) 9 + secondSum (λ k. w (i * 9 + k)) 9
+  lane-run-more : (i : ℕ) → secondSum (laneFirst w (suc i)) 6 ≡ secondSum (laneFirst w i) 6 + secondSum (λ k. w (i * 6 + k)) 6
   lane-run-more i =
-      sum-same _ _ 9 (λ m l. sum-same _ _ (suc m) (λ k n. sum-next (λ j. w (j * 9 + k)) i)) ∙
-      second-both (laneFirst w i) (λ k. w (i * 9 + k)) 9
+      sum-same _ _ 6 (λ m l. sum-same _ _ (suc m) (λ k n. sum-next (λ j. w (j * 6 + k)) i)) ∙
+      second-both (laneFirst w i) (λ k. w (i * 6 + k)) 6
 
-  lane-second-more : (i : ℕ) → sumBelow 9 (laneSecond w (suc i)) ≡ sumBelow 9 (laneSecond w i) + sumBelow 9 (laneFirst w i)
+  lane-second-more : (i : ℕ) → sumBelow 6 (laneSecond w (suc i)) ≡ sumBelow 6 (laneSecond w i) + sumBelow 6 (laneFirst w i)
   lane-second-more i =
-      sum-same _ _ 9 (λ k l. sum-next (λ j. laneFirst w j k) i) ∙ sum-both (laneSecond w i) (laneFirst w i) 9
+      sum-same _ _ 6 (λ k l. sum-next (λ j. laneFirst w j k) i) ∙ sum-both (laneSecond w i) (laneFirst w i) 6
 
-  -- the lanes after i turns, joined, are the sums of their 9 i words
-  joined-first : (i : ℕ) → firstSum w (i * 9) ≡ firstSum (laneFirst w i) 9
+  -- the lanes after i turns, joined, are the sums of their 6 i words
+  joined-first : (i : ℕ) → firstSum w (i * 6) ≡ firstSum (laneFirst w i) 6
   unfolding sumBelow
   joined-first zero = refl
-  joined-first (suc i) = rw (suc-mul i 9) (sum-plus w (i * 9) 9 ∙ rw (joined-first i) (sym (lane-first-more i)))
+  joined-first (suc i) = rw (suc-mul i 6) (sum-plus w (i * 6) 6 ∙ rw (joined-first i) (sym (lane-first-more i)))
 
-  joined-second : (i : ℕ) → secondSum w (i * 9) ≡ secondSum (laneFirst w i) 9 + 9 * sumBelow 9 (laneSecond w i)
+  joined-second : (i : ℕ) → secondSum w (i * 6) ≡ secondSum (laneFirst w i) 6 + 6 * sumBelow 6 (laneSecond w i)
   unfolding sumBelow
   joined-second zero = refl
   joined-second (suc i) =
-      rw (suc-mul i 9)
-      (omega (arith, second-plus w (i * 9) 9, joined-second i, joined-first i, lane-run-more i, lane-second-more i))
+      rw (suc-mul i 6)
+      (omega (arith, second-plus w (i * 6) 6, joined-second i, joined-first i, lane-run-more i, lane-second-more i))
 
   -- no turn yet
-  pub lanes-begin : Laned w 0 0 (replicate 9 0) (replicate 9 0)
+  pub lanes-begin : Laned w 0 0 (replicate 6 0) (replicate 6 0)
   unfolding sumBelow
   lanes-begin =
       record {
-        long-first = length-replicate {A = ℕ} 9 0;
-        long-second = length-replicate {A = ℕ} 9 0;
+        long-first = length-replicate {A = ℕ} 6 0;
+        long-second = length-replicate {A = ℕ} 6 0;
         done = λ l h. absurd (not-suc-le-zero h);
         left = λ l h m. record {
-          first-is = getD-replicate {A = ℕ} 9 l 0 0 m;
-          second-is = getD-replicate {A = ℕ} 9 l 0 0 m;
+          first-is = getD-replicate {A = ℕ} 6 l 0 0 m;
+          second-is = getD-replicate {A = ℕ} 6 l 0 0 m;
         };
       }
 
   module _ (i k : ℕ) (first second : List ℕ) (t : Laned w i k first second) where
     -- all lanes have had their turn
-    pub lanes-next : k ≡ 9 → Laned w (i + 1) 0 first second
+    pub lanes-next : k ≡ 6 → Laned w (i + 1) 0 first second
     lanes-next e =
         record {
           long-first = t .long-first;
@@ -159,9 +154,9 @@ module _ (w : ℕ → ℕ) where
         }
 
     -- lane k has its turn
-    module _ (h : k < 9) where
+    module _ (h : k < 6) where
       abbrev pub firstNow : List ℕ
-      firstNow = set first k ((getD first k 0 + w (i * 9 + k)) % 2 ^ 32)
+      firstNow = set first k ((getD first k 0 + w (i * 6 + k)) % 2 ^ 32)
 
       abbrev pub secondNow : List ℕ
       secondNow = set second k ((getD second k 0 + getD first k 0) % 2 ^ 32)
@@ -171,7 +166,7 @@ module _ (w : ℕ → ℕ) where
       this =
           let was = t .left k (omega arith) h in
           record {
-            first-is = getD-set-same first k _ 0 (omega (arith, t .long-first)) ∙ rw (was .first-is) (drop-left (laneFirst w i k) (w (i * 9 + k)));
+            first-is = getD-set-same first k _ 0 (omega (arith, t .long-first)) ∙ rw (was .first-is) (drop-left (laneFirst w i k) (w (i * 6 + k)));
             second-is = getD-set-same second k _ 0 (omega (arith, t .long-second)) ∙ rw (was .first-is, was .second-is) (drop-both (laneSecond w i k) (laneFirst w i k));
           }
 
@@ -191,27 +186,67 @@ module _ (w : ℕ → ℕ) where
             left = λ l m n. other i l (λ e. omega (arith, e)) (t .left l (omega arith) n);
           }
 
--- what is made of the lanes: s is the running sums of their first sums, t the sum of their second ones
-abbrev pub joinedBy : Sums → ℕ → Sums
-joinedBy s t = record { first = s .first; second = (s .second + 9 * t % 2 ^ 32) % 2 ^ 32 }
+-- sums of words that are zero
+sum-none : (x : ℕ → ℕ) (n : ℕ) → ((k : ℕ) → k < n → x k ≡ 0) → sumBelow n x ≡ 0
+unfolding sumBelow
+sum-none x zero h = refl
+sum-none x (suc n) h = rw (sum-none x n (λ k l. h k (omega arith)), h n (omega arith))
 
--- the lanes after 14 turns, joined in order, are the sums of 126 words
-pub lanes-join : (b first second : List ℕ) (t : ℕ) → Laned (wordOf b) 14 0 first second →
-    t ≡ sumBelow 9 (λ k. getD second k 0) % 2 ^ 32 →
-    joinedBy (running (λ k. getD first k 0) 9) t ≡ sumsOf b
+second-none : (x : ℕ → ℕ) (n : ℕ) → ((k : ℕ) → k < n → x k ≡ 0) → secondSum x n ≡ 0
+second-none x n h = sum-none _ n (λ m l. sum-none x (suc m) (λ k q. h k (omega arith)))
+
+-- the lanes after n + 1 turns, joined in order, are the sums of 126 words, where those behind are zero
+pub lanes-join : (b first second : List ℕ) (n t : ℕ) → n ≤ 20 → ((m : ℕ) → (n + 1) * 6 ≤ m → m < 126 → wordOf b m ≡ 0) →
+    Laned (wordOf b) (n + 1) 0 first second →
+    t ≡ sumBelow 6 (λ k. getD second k 0) % 2 ^ 32 →
+    joinedBy (running (λ k. getD first k 0) 6) t (20 - n) ≡ sumsOf b
 unfolding sumsOf
-lanes-join b first second t l e = rw (summed-running b 126, running-is w w 126 (λ m n. refl), lanes) (λ i. record {
-  first = ap (λ (n : ℕ). n % 2 ^ 32) (sym (joined-first w 14)) i;
+lanes-join b first second n t h none l e = rw (summed-running b 126, running-is w w 126 (λ m q. refl), lanes, whole-first, whole-second) (λ i. record {
+  first = firstSum (laneFirst w (n + 1)) 6 % 2 ^ 32;
   second = second-sum i;
 })
   where
     w : ℕ → ℕ
     w = wordOf b
 
-    lanes : running (λ k. getD first k 0) 9 ≡ dropped (firstSum (laneFirst w 14) 9) (secondSum (laneFirst w 14) 9)
-    lanes = running-is (laneFirst w 14) (λ k. getD first k 0) 9 (λ k m. rw (l .left k (omega arith) m .first-is) (omega arith))
+    F : ℕ
+    F = firstSum (laneFirst w (n + 1)) 6
 
-    second-sum : (secondSum (laneFirst w 14) 9 % 2 ^ 32 + 9 * t % 2 ^ 32) % 2 ^ 32 ≡ secondSum w 126 % 2 ^ 32
+    S : ℕ
+    S = secondSum (laneFirst w (n + 1)) 6
+
+    T : ℕ
+    T = sumBelow 6 (laneSecond w (n + 1))
+
+    lanes : running (λ k. getD first k 0) 6 ≡ dropped F S
+    lanes = running-is (laneFirst w (n + 1)) (λ k. getD first k 0) 6 (λ k m. rw (l .left k (omega arith) m .first-is) (omega arith))
+
+    rest : (k : ℕ) → k < 120 - n * 6 → w ((n + 1) * 6 + k) ≡ 0
+    rest k q = none ((n + 1) * 6 + k) (omega arith) (omega arith)
+
+    all : (n + 1) * 6 + (120 - n * 6) ≡ 126
+    all = omega arith
+
+    whole-first : firstSum w 126 ≡ F
+    whole-first =
+        rw (← all)
+        (omega (arith, sum-plus w ((n + 1) * 6) (120 - n * 6), joined-first w (n + 1), sum-none (λ k. w ((n + 1) * 6 + k)) (120 - n * 6) rest))
+
+    each : (120 - n * 6) * firstSum w ((n + 1) * 6) ≡ 6 * ((20 - n) * F)
+    each = let x : 120 - n * 6 ≡ 6 * (20 - n) = omega arith in rw (x, joined-first w (n + 1)) (mul-assoc 6 (20 - n) F)
+
+    whole-second : secondSum w 126 ≡ S + 6 * ((20 - n) * F + T)
+    whole-second =
+        rw (← all)
+        (omega (arith, second-plus w ((n + 1) * 6) (120 - n * 6), joined-second w (n + 1), each, second-none (λ k. w ((n + 1) * 6 + k)) (120 - n * 6) rest))
+
+    again : ((20 - n) * (F % 2 ^ 32) + t) % 2 ^ 32 ≡ ((20 - n) * F + T) % 2 ^ 32
+    again =
+        let g : t ≡ T % 2 ^ 32 = e ∙ sum-dropped (laneSecond w (n + 1)) (λ k. getD second k 0) 6 (λ k m. rw (l .left k (omega arith) m .second-is) (omega arith)) in
+        rw g (drop-right ((20 - n) * (F % 2 ^ 32)) T ∙ sym (drop-left ((20 - n) * (F % 2 ^ 32)) T) ∙ rw (times-dropped (20 - n) F) (drop-left ((20 - n) * F) T))
+
+    second-sum : (S % 2 ^ 32 + 6 * ((20 - n) * (F % 2 ^ 32) + t)) % 2 ^ 32 ≡ (S + 6 * ((20 - n) * F + T)) % 2 ^ 32
     second-sum =
-        let g : t ≡ sumBelow 9 (laneSecond w 14) % 2 ^ 32 = e ∙ sum-dropped (laneSecond w 14) (λ k. getD second k 0) 9 (λ k m. rw (l .left k (omega arith) m .second-is) (omega arith)) in
-        rw (g, nine-dropped (sumBelow 9 (laneSecond w 14))) (drop-both (secondSum (laneFirst w 14) 9) (9 * sumBelow 9 (laneSecond w 14)) ∙ ap (λ (n : ℕ). n % 2 ^ 32) (sym (joined-second w 14)))
+        sym (drop-right (S % 2 ^ 32) (6 * ((20 - n) * (F % 2 ^ 32) + t))) ∙
+        rw (sym (times-dropped 6 ((20 - n) * (F % 2 ^ 32) + t)) ∙ ap (λ (x : ℕ). 6 * x % 2 ^ 32) again ∙ times-dropped 6 ((20 - n) * F + T))
+        (drop-both S (6 * ((20 - n) * F + T)))

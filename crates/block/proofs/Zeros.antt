@@ -7,7 +7,8 @@ use mathlib.Core.Path.{_≡_, refl, sym, _∙_}
 use native.Mathlib.Nat.{not-suc-le-zero}
 use native.Mathlib.Omega.{arith}
 use lib.Dec.{eqb}
-use lib.ListN.{length}
+use lib.ListN.{length, take, drop, length-drop}
+use lib.Seq.{length-take-le, getD-take, getD-drop}
 use borrow.Author.Tests.{eq-eqb, ne-eqb, eqb-true}
 use Rattle.below.proofs.Search.{all-at, all-every}
 use Rattle.below.proofs.Tests.{bool-iff, and-both, both-and, le-or-lt, not-true-false, true-not-false}
@@ -76,6 +77,13 @@ module _ (s : List ℕ) where
       (λ t. sym zero-all ∙ zero-next 0 m m (length s - m) (length s) (omega arith) (omega arith) p t)
       (λ t. zero-part 0 (length s) m (length s - m) (omega arith) (omega arith) (zero-all ∙ t))
 
+  -- what is left may be looked at with some of what is ahead
+  pub zero-last : (m n : ℕ) → m ≤ length s → n ≤ length s → length s ≤ m + n → zeroIn s 0 m ≡ true → zeroIn s (length s - n) n ≡ isZero s
+  zero-last m n l h q p =
+      bool-iff _ _
+      (λ t. sym (zero-rest m l p) ∙ zero-part (length s - n) n m (length s - m) (omega arith) (omega arith) t)
+      (λ t. zero-part 0 (length s) (length s - n) n (omega arith) (omega arith) (zero-all ∙ t))
+
   pub part-lost : (a n : ℕ) → a + n ≤ length s → zeroIn s a n ≡ false → isZero s ≡ false
   part-lost a n l e = sym zero-all ∙ part-not 0 (length s) a n (omega arith) (omega arith) e
 
@@ -118,6 +126,10 @@ number-zero w s i =
     (λ t. each-zero s i w (number-each w s i (eqb-true _ _ t)))
     (λ t. eq-eqb _ _ (each-number w s i (zero-each s i w t)))
 
+-- a number among zero bytes
+pub number-none : (w : ℕ) (s : List ℕ) (a n i : ℕ) → zeroIn s a n ≡ true → a ≤ i → i + w ≤ a + n → numberAt w s i ≡ 0
+number-none w s a n i e l h = eqb-true _ _ (number-zero w s i ∙ zero-part s a n i w l h e)
+
 module _ (s : List ℕ) (i : ℕ) {x : ℕ} (here : x ≡ numberAt 8 s i) where
   pub long-zero : x ≡ 0 → zeroIn s i 8 ≡ true
   long-zero e = sym (number-zero 8 s i) ∙ eq-eqb _ _ (sym here ∙ e)
@@ -147,3 +159,19 @@ eight-longs s i =
       zero-split s i 16 8,
       zero-split s i 8 8,
     )
+
+-- a part is zero where its bytes are, in their own places
+pub part-zero : (r : List ℕ) (a n : ℕ) → a + n ≤ length r → isZero (take n (drop a r)) ≡ zeroIn r a n
+part-zero r a n l =
+    bool-iff _ _
+    (λ t. each-zero r a n (λ k h. sym (same k h) ∙ zero-at part t k (omega (arith, long))))
+    (λ t. at-zero part (λ k h. let q : k < n = omega (arith, long) in same k q ∙ zero-each r a n t k q))
+  where
+    part : List ℕ
+    part = take n (drop a r)
+
+    long : length part ≡ n
+    long = length-take-le n (drop a r) (rw length-drop (omega arith))
+
+    same : (k : ℕ) → k < n → byteAt part k ≡ byteAt r (a + k)
+    same k h = getD-take n (drop a r) k 0 h ∙ getD-drop a r k 0

@@ -145,25 +145,32 @@ fn is_zero_64(s: &[u8], at: usize) -> bool
         & (long_in(s, at + 56) == 0)
 }
 
-// Are the first n times 64 bytes zero?
+fn is_zero_128(s: &[u8], at: usize) -> bool
+    requires { ⌜ at + 128 ≤ length (now s) ⌝ }
+    ensures { λ r. ⌜ r ≡ zeroIn (now (s .entry)) at 128 ⌝ }
+{
+    is_zero_64(s, at) & is_zero_64(s, at + 64)
+}
+
+// Are the first n times 128 bytes zero?
 fn are_chunks_zero(s: &[u8], n: usize) -> bool
-    requires { ⌜ n * 64 ≤ length (now s) ⌝ }
-    ensures { λ r. ⌜ r ≡ zeroIn (now (s .entry)) 0 (n * 64) ⌝ }
+    requires { ⌜ n * 128 ≤ length (now s) ⌝ }
+    ensures { λ r. ⌜ r ≡ zeroIn (now (s .entry)) 0 (n * 128) ⌝ }
 {
     for i in 0..n {
-        if !is_zero_64(s, i * 64) {
+        if !is_zero_128(s, i * 128) {
             return false;
         }
     }
     true
 }
 
-// Are the 64-bit numbers a to n - 1 zero?
-fn are_longs_zero(s: &[u8], a: usize, n: usize) -> bool
-    requires { ⌜ (a ≤ n) × (n * 8 ≤ length (now s)) ⌝ }
-    ensures { λ r. ⌜ r ≡ zeroIn (now (s .entry)) (a * 8) ((n - a) * 8) ⌝ }
+// Are the first n 64-bit numbers zero?
+fn are_longs_zero(s: &[u8], n: usize) -> bool
+    requires { ⌜ n * 8 ≤ length (now s) ⌝ }
+    ensures { λ r. ⌜ r ≡ zeroIn (now (s .entry)) 0 (n * 8) ⌝ }
 {
-    for i in a..n {
+    for i in 0..n {
         if long_in(s, i * 8) != 0 {
             return false;
         }
@@ -184,17 +191,26 @@ fn are_bytes_zero(s: &[u8], a: usize) -> bool
     true
 }
 
-// Is every byte zero? Most by 64, the rest by 8, and a few by one.
-pub fn is_zero(s: &[u8]) -> bool
+// Are these few bytes zero? By 8, and then by one.
+fn are_few_zero(s: &[u8]) -> bool
     ensures { λ r. ⌜ r ≡ isZero (now (s .entry)) ⌝ }
 {
-    let chunks = s.len() / 64;
     let longs = s.len() / 8;
-    if !are_chunks_zero(s, chunks) {
-        return false;
-    }
-    if !are_longs_zero(s, chunks * 8, longs) {
+    if !are_longs_zero(s, longs) {
         return false;
     }
     are_bytes_zero(s, longs * 8)
+}
+
+// Is every byte zero? By 128; the last 128 bytes, some of which were looked at already, have those that are left.
+pub fn is_zero(s: &[u8]) -> bool
+    ensures { λ r. ⌜ r ≡ isZero (now (s .entry)) ⌝ }
+{
+    if s.len() < 128 {
+        return are_few_zero(s);
+    }
+    if !are_chunks_zero(s, s.len() / 128) {
+        return false;
+    }
+    is_zero_128(s, s.len() - 128)
 }

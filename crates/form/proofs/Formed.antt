@@ -8,15 +8,18 @@ use native.Mathlib.Nat.{le-refl}
 use native.Mathlib.Omega.{arith}
 use lib.Dec.{eqb, ltb}
 use borrow.Author.Tests.{leb-true, ltb-false, eqb-true, not-false}
-use Rattle.below.proofs.Search.{NoneBelow, any-none, any-not}
-use Rattle.below.proofs.Tests.{bool-cases, true-not-false, and-false, or-either, or-neither}
+use Rattle.below.specs.Below.{firstBelow}
+use Rattle.below.proofs.Search.{NoneBelow, any-none, any-not, first-same}
+use Rattle.below.proofs.Tests.{bool-cases, true-not-false, and-false, or-either, or-neither, or-false}
 use Rattle.block.specs.Sums.{sumsRight}
 use Rattle.day.specs.Days.{openMark, isDay}
 use Rattle.plan.specs.Fields.{kindOf, firstOf, endOf, lastOf}
 use Rattle.plan.specs.Periods.{blocksOf, blockAt, isPeriod}
 use Rattle.refusal.proofs.Order.{Passed, passed-lowest, rule-none}
+use Rattle.refusal.specs.Order.{lowestBlock}
 use Rattle.refusal.specs.declared.Refusal.{Refusal}
 use Rattle.form.specs.Form.{badLength, sumsWrong, misplaced, daysOut, dosesOut, periodOut, blockOut, formBreaks, formRule, formOf}
+use Rattle.form.specs.Front.{brokenAt}
 use Rattle.form.specs.declared.Form.the-variants.{Right, Broken}
 use Rattle.form.proofs.Laws.{right-is}
 
@@ -118,9 +121,6 @@ module _ (limit : ℕ) (p : List ℕ) (long : badLength limit p ≡ false)
   right = sym (right-is limit p long (all-passed p sums places ranges))
 
 -- the three rules, asked of one block after another
-abbrev pub brokenAt : List ℕ → ℕ → Bool
-brokenAt p b = misplaced p b || blockOut (blockAt p b) || sumsWrong p b
-
 pub none-broken : (p : List ℕ) → NoneBelow (brokenAt p) (blocksOf p) → formRule p ≡ 5
 none-broken p none =
     rule-none (blocksOf p) (formBreaks p) (le-refl 5)
@@ -134,3 +134,15 @@ none-broken p none =
 
     one : (b : ℕ) → b < blocksOf p → (misplaced p b ≡ false) × (blockOut (blockAt p b) ≡ false)
     one b l = or-neither (misplaced p b) (blockOut (blockAt p b)) (two b l .0)
+
+-- where no block breaks rule 2 or 3, the lowest broken block breaks rule 4
+pub lowest-broken : (p : List ℕ) → Passed (blocksOf p) (formBreaks p) 4 →
+    firstBelow (blocksOf p) (brokenAt p) ≡ lowestBlock (blocksOf p) (formBreaks p) 4
+unfolding lowestBlock formBreaks
+lowest-broken p passed = first-same (brokenAt p) (formBreaks p 4) (blocksOf p) same
+  where
+    same : (b : ℕ) → b < blocksOf p → brokenAt p b ≡ formBreaks p 4 b
+    same b l =
+        let sums : sumsWrong p b ≡ false = any-not (formBreaks p 2) (passed 2 (omega arith)) b l in
+        let place : misplaced p b ≡ false = any-not (formBreaks p 3) (passed 3 (omega arith)) b l in
+        rw (sums, place) (or-false (blockOut (blockAt p b)))

@@ -4,3 +4,4 @@ pub mod Zeroed
 pub mod Opened
 pub mod Formed
 pub mod Ranged
+pub mod Fronts

@@ -1,4 +1,5 @@
-// Rule 4: the fields and the zero bytes of one whole block.
+// Rules 2 and 4 of one whole block: its fields and dose records, and then its zero bytes and sums.
+use block::ends_right;
 use block::is_zero;
 use block::long_at;
 use block::longs_at;
@@ -10,12 +11,14 @@ use plan::first_of;
 use plan::kind_of;
 ghost use mathlib.Core.Path.{_≡_};
 ghost use Prim.Native.Nat.{_/_, _%_, _≤_, _<_};
-ghost use mathlib.Core.Bool.{cond, _||_};
+ghost use mathlib.Core.Bool.{cond, not, _||_};
 ghost use lib.Dec.{eqb, ltb};
 ghost use lib.ListN.{length};
 ghost use Rattle.below.specs.Below.{anyBelow};
+ghost use Rattle.block.specs.Sums.{sumsRight};
 ghost use Rattle.plan.specs.Fields.{recordAt};
-ghost use Rattle.form.specs.Form.{daysOut, notZero, recordOut, dosesOut, headOut, periodOut, continuationOut, blockOut};
+ghost use Rattle.form.specs.Form.{daysOut, notZero, recordOut, blockOut};
+ghost use Rattle.form.specs.Front.{recordsOut, headFront, periodFront, continuationFront, frontOut, recordsOf};
 
 // Is one of the bytes from a up to e not zero?
 fn not_zero(r: &[u8], a: usize, e: usize) -> bool
@@ -83,38 +86,32 @@ fn any_dose_out(r: &[u8], n: usize) -> bool
     false
 }
 
-fn doses_out(r: &[u8]) -> bool
+fn records_out(r: &[u8]) -> bool
     requires { ⌜ length (now r) ≡ 512 ⌝ }
-    ensures { λ t. ⌜ t ≡ dosesOut (now (r .entry)) ⌝ }
+    ensures { λ t. ⌜ t ≡ recordsOut (now (r .entry)) ⌝ }
 {
     let n = count_of(r) as usize;
     if 20 < n {
         return true;
     }
-    if any_dose_out(r, n) {
-        return true;
-    }
-    not_zero(r, 24 + n * 24, 504)
+    any_dose_out(r, n)
 }
 
 // Bytes 20 to 23 are read as one number, at most 1 where the VKA byte is and the three behind it are zero.
 fn head_out(r: &[u8]) -> bool
     requires { ⌜ length (now r) ≡ 512 ⌝ }
-    ensures { λ t. ⌜ t ≡ headOut (now (r .entry)) ⌝ }
+    ensures { λ t. ⌜ t ≡ headFront (now (r .entry)) ⌝ }
 {
     if days_out(r) {
         return true;
     }
-    if 1 < word_at(r, 20) {
-        return true;
-    }
-    not_zero(r, 24, 504)
+    1 < word_at(r, 20)
 }
 
 // Bytes 12 to 23 are zero where the two numbers that they make are.
 fn period_out(r: &[u8]) -> bool
     requires { ⌜ length (now r) ≡ 512 ⌝ }
-    ensures { λ t. ⌜ t ≡ periodOut (now (r .entry)) ⌝ }
+    ensures { λ t. ⌜ t ≡ periodFront (now (r .entry)) ⌝ }
 {
     if days_out(r) {
         return true;
@@ -125,20 +122,26 @@ fn period_out(r: &[u8]) -> bool
     if long_at(r, 16) != 0 {
         return true;
     }
-    doses_out(r)
+    records_out(r)
 }
 
 fn continuation_out(r: &[u8]) -> bool
     requires { ⌜ length (now r) ≡ 512 ⌝ }
-    ensures { λ t. ⌜ t ≡ continuationOut (now (r .entry)) ⌝ }
+    ensures { λ t. ⌜ t ≡ continuationFront (now (r .entry)) ⌝ }
 {
-    (count_of(r) == 0) | not_zero(r, 2, 24) | doses_out(r)
+    if count_of(r) == 0 {
+        return true;
+    }
+    if not_zero(r, 2, 24) {
+        return true;
+    }
+    records_out(r)
 }
 
-// Rule 4 of a block, by its kind.
-pub(crate) fn block_out(r: &[u8]) -> bool
+// Rule 4 of a block, by its kind, without the zeros behind its records.
+fn front_out(r: &[u8]) -> bool
     requires { ⌜ length (now r) ≡ 512 ⌝ }
-    ensures { λ t. ⌜ t ≡ blockOut (now (r .entry)) ⌝ }
+    ensures { λ t. ⌜ t ≡ frontOut (now (r .entry)) ⌝ }
 {
     let kind = kind_of(r);
     if kind == 1 {
@@ -148,4 +151,21 @@ pub(crate) fn block_out(r: &[u8]) -> bool
         return period_out(r);
     }
     continuation_out(r)
+}
+
+fn records_of(r: &[u8]) -> u8
+    ensures { λ n. ⌜ n ≡ recordsOf (now (r .entry)) ⌝ }
+{
+    if kind_of(r) == 1 { 0 } else { count_of(r) }
+}
+
+// Rules 2 and 4 of a block. Zeros and sums are looked at together: the sums need not be made over zeros.
+pub(crate) fn block_wrong(r: &[u8]) -> bool
+    requires { ⌜ length (now r) ≡ 512 ⌝ }
+    ensures { λ t. ⌜ t ≡ (blockOut (now (r .entry)) || not (sumsRight (now (r .entry)))) ⌝ }
+{
+    if front_out(r) {
+        return true;
+    }
+    !ends_right(r, records_of(r))
 }

@@ -1,6 +1,6 @@
 // Rules 1 to 4 in their order.
 use crate::Form;
-use crate::block_form::block_out;
+use crate::block_form::block_wrong;
 use block::sums_right;
 use plan::block_of;
 use plan::count_of;
@@ -8,10 +8,11 @@ use plan::kind_of;
 use refusal::Refusal;
 ghost use mathlib.Core.Path.{_≡_};
 ghost use Prim.Native.Nat.{_<_};
-ghost use mathlib.Core.Bool.{true, false, _||_};
+ghost use Rattle.below.specs.Below.{firstBelow};
 ghost use Rattle.refusal.specs.Order.{lowestBlock};
-ghost use Rattle.plan.specs.Periods.{blocksOf, blockAt};
-ghost use Rattle.form.specs.Form.{badLength, sumsWrong, noHead, goesOn, misplaced, blockOut, formBreaks, formRule, formOf};
+ghost use Rattle.plan.specs.Periods.{blocksOf};
+ghost use Rattle.form.specs.Form.{badLength, sumsWrong, noHead, goesOn, misplaced, formBreaks, formOf};
+ghost use Rattle.form.specs.Front.{brokenAt};
 ghost use Rattle.form.specs.Whole.{Whole};
 
 // Rule 1.
@@ -62,23 +63,22 @@ fn is_misplaced(plan: &[u8], b: u8) -> bool
     !goes_on(plan, b - 1)
 }
 
-// Block b breaks rule k, from 2 to 4.
+// Block b breaks rule k, 2 or 3.
 fn form_breaks(plan: &[u8], k: u8, b: u8) -> bool
-    requires { ⌜ Whole (now plan) ⌝ }
-    requires { ⌜ b < blocksOf (now plan) ⌝ }
+    requires { ⌜ k < 4 ⌝ }
     ensures { λ r. ⌜ r ≡ formBreaks (now (plan .entry)) k b ⌝ }
 {
     match k {
         2 => sums_wrong(plan, b),
         3 => is_misplaced(plan, b),
-        4 => block_out(block_of(plan, b as u16)),
         _ => false,
     }
 }
 
-// The lowest block that breaks rule k, or the number of blocks.
+// The lowest block that breaks rule k, 2 or 3, or the number of blocks.
 fn lowest_block(plan: &[u8], k: u8) -> u8
     requires { ⌜ Whole (now plan) ⌝ }
+    requires { ⌜ k < 4 ⌝ }
     ensures { λ r. ⌜ r ≡ lowestBlock (blocksOf (now (plan .entry))) (formBreaks (now (plan .entry))) k ⌝ }
 {
     let n = (plan.len() / 512) as u8;
@@ -94,47 +94,47 @@ fn lowest_block(plan: &[u8], k: u8) -> u8
 fn is_broken(plan: &[u8], b: u8) -> bool
     requires { ⌜ Whole (now plan) ⌝ }
     requires { ⌜ b < blocksOf (now plan) ⌝ }
-    ensures { λ r. ⌜ r ≡ (misplaced (now (plan .entry)) b || blockOut (blockAt (now (plan .entry)) b) || sumsWrong (now (plan .entry)) b) ⌝ }
+    ensures { λ r. ⌜ r ≡ brokenAt (now (plan .entry)) b ⌝ }
 {
     if is_misplaced(plan, b) {
         return true;
     }
-    if block_out(block_of(plan, b as u16)) {
-        return true;
-    }
-    sums_wrong(plan, b)
+    block_wrong(block_of(plan, b as u16))
 }
 
-// True only where no block breaks rule 2, 3 or 4: the usual plan is gone through once, with all three rules at each block.
-fn is_right(plan: &[u8]) -> bool
+// The lowest block that breaks rule 2, 3 or 4, or the number of blocks: the usual plan is gone through once, with all three rules at
+// each block.
+fn first_broken(plan: &[u8]) -> u8
     requires { ⌜ Whole (now plan) ⌝ }
-    ensures { λ r. ⌜ (r ≡ true → formRule (now (plan .entry)) ≡ 5) ⌝ }
+    ensures { λ r. ⌜ r ≡ firstBelow (blocksOf (now (plan .entry))) (brokenAt (now (plan .entry))) ⌝ }
 {
     let n = (plan.len() / 512) as u8;
     for b in 0..n {
         if is_broken(plan, b) {
-            return false;
+            return b;
         }
     }
-    true
+    n
 }
 
-// The first of rules 1 to 4 that is broken, with its place. Rule by rule only where one is.
+// The first of rules 1 to 4 that is broken, with its place. Rule by rule only where one is; and where no block breaks rule 2 or 3,
+// the lowest broken one breaks rule 4.
 pub fn form_of(plan: &[u8], limit: u16) -> Form
     ensures { λ r. ⌜ r ≡ formOf limit (now (plan .entry)) ⌝ }
 {
     if bad_length(plan, limit) {
         return Form::Broken(Refusal::of_rule(1, 0));
     }
-    if is_right(plan) {
+    let n = (plan.len() / 512) as u8;
+    let first = first_broken(plan);
+    if n <= first {
         return Form::Right;
     }
-    let n = (plan.len() / 512) as u8;
-    for k in 2..5u8 {
+    for k in 2..4u8 {
         let b = lowest_block(plan, k);
         if b < n {
             return Form::Broken(Refusal::of_rule(k, b));
         }
     }
-    Form::Right
+    Form::Broken(Refusal::of_rule(4, first))
 }

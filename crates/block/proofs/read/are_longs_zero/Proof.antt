@@ -9,13 +9,13 @@ use Rattle.block.proofs.read.are_longs_zero.Statement.{statement}
 use Rattle.block.proofs.read.are_longs_zero.Tie as tie
 
 abbrev Inv-loop : tie.InvT-loop
-Inv-loop s a n i₀ i = (a ≤ i) × (i ≤ n) × (zeroIn s (a * 8) ((i - a) * 8) ≡ true)
+Inv-loop s n i₀ i = (i ≤ n) × (zeroIn s 0 (i * 8) ≡ true)
 
 abbrev μ-loop : tie.MeasureT-loop
-μ-loop s a n i₀ i = n - i
+μ-loop s n i₀ i = n - i
 
 loop-holds : tie.Need-loop-holds Inv-loop μ-loop
-loop-holds c = let a = c .before .args .a in let e : (a - a) * 8 ≡ 0 = omega arith in (search needs, search needs, rw e (zero-none _ _))
+loop-holds c = (search needs, zero-none _ _)
 
 mul-long-in : tie.Need-mul-long-in Inv-loop μ-loop
 mul-long-in c = search needs
@@ -24,7 +24,7 @@ long-in-requires : tie.Need-long-in-requires Inv-loop μ-loop
 long-in-requires c κs = search needs
 
 returns : tie.Need-returns Inv-loop μ-loop
-returns c = let l = c .before .before .before .loop in let a = c .before .before .before .before .before .args in sym (part-not (a .s .now) (a .a * 8) ((a .n - a .a) * 8) (l .i * 8) 8 (omega arith) (omega arith) (long-not (a .s .now) (l .i * 8) (c .before .long-in .ensures) (c .if1 .taken)))
+returns c = let l = c .before .before .before .loop in let a = c .before .before .before .before .before .args in sym (part-not (a .s .now) 0 (a .n * 8) (l .i * 8) 8 (omega arith) (omega arith) (long-not (a .s .now) (l .i * 8) (c .before .long-in .ensures) (c .if1 .taken)))
 
 add-i : tie.Need-add-i Inv-loop μ-loop
 add-i c = search needs
@@ -33,10 +33,10 @@ loop-less : tie.Need-loop-less Inv-loop μ-loop
 loop-less c = search needs
 
 loop-again : tie.Need-loop-again Inv-loop μ-loop
-loop-again c = let l = c .before .before .before .loop in let a = c .before .before .before .before .before .args in (search needs, search needs, zero-next (a .s .now) (a .a * 8) ((l .i - a .a) * 8) (l .i * 8) 8 _ (omega arith) (omega arith) (l .inv .2) (long-zero (a .s .now) (l .i * 8) (c .before .long-in .ensures) (c .if1 .left)))
+loop-again c = let l = c .before .before .before .loop in let a = c .before .before .before .before .before .args in (search needs, zero-next (a .s .now) 0 (l .i * 8) (l .i * 8) 8 _ (omega arith) (omega arith) (l .inv .1) (long-zero (a .s .now) (l .i * 8) (c .before .long-in .ensures) (c .if1 .left)))
 
 returns-2 : tie.Need-returns-2 Inv-loop μ-loop
-returns-2 c = let e : c .before .before .before .args .n ≡ c .before .loop .i = omega arith in rw e (sym (c .before .loop .inv .2))
+returns-2 c = let e : c .before .before .before .args .n ≡ c .before .loop .i = omega arith in rw e (sym (c .before .loop .inv .1))
 
 pub are-longs-zero-spec : {M : Type 1} → statement M
 are-longs-zero-spec =

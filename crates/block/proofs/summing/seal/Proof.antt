@@ -6,6 +6,7 @@ use borrow.Author.Tests.{eq-eqb, ne-eqb}
 use Rattle.block.specs.Sums.{sumsRight, sealed}
 use Rattle.block.proofs.Numbers.{AreBytes}
 use Rattle.block.proofs.Sealing.{right-sealed}
+use Rattle.block.proofs.Zeros.{zero-none}
 use borrow.Author.Needs.{needs}
 use Rattle.block.proofs.summing.seal.Statement.{statement}
 use Rattle.block.proofs.summing.seal.Tie as tie
@@ -15,7 +16,7 @@ unfolding sealed
 returns c = rw (ne-eqb _ _ (c .if1 .taken))
 
 sums-of-requires : tie.Need-sums-of-requires
-sums-of-requires c κs = search needs
+sums-of-requires c κs = (search needs, search needs, zero-none _ _)
 
 word-in-requires : tie.Need-word-in-requires
 word-in-requires c κs = search needs

@@ -1,35 +1,39 @@
 use Prim.Native.Nat.{_+_, _*_, _%_, _^_, _-_, _≤_}
-use mathlib.Core.Path.{_≡_, refl}
+use mathlib.Core.Path.{_≡_, refl, _∙_}
 use native.Mathlib.Numerals.{add-one}
 use native.Mathlib.Omega.{arith}
 use lib.ListN.{getD}
 use Rattle.below.specs.Below.{sumBelow}
 use Rattle.block.specs.Lanes.{wordOf, Laned, running}
 use Rattle.block.proofs.Lanes.{drop-left, lanes-begin, lanes-next, lanes-turn, lanes-join}
+use Rattle.block.proofs.Zeros.{number-none}
 use borrow.Author.Needs.{needs}
 use Rattle.block.proofs.summing.sums_of.Statement.{statement}
 use Rattle.block.proofs.summing.sums_of.Tie as tie
 
 abbrev Inv-loop2 : tie.InvT-loop2
-Inv-loop2 b first₀ second₀ i k₀ first second k = (k ≤ 9) × (i ≤ 13) × Laned (wordOf b) i k first second
+Inv-loop2 b n first₀ second₀ i k₀ i-end first second k = (k ≤ 6) × (i ≤ n) × (i-end ≡ n + 1) × Laned (wordOf b) i k first second
 
 abbrev μ-loop2 : tie.MeasureT-loop2
-μ-loop2 b first₀ second₀ i k₀ first second k = 9 - k
+μ-loop2 b n first₀ second₀ i k₀ i-end first second k = 6 - k
 
 abbrev Inv-loop : tie.InvT-loop
-Inv-loop b first₀ second₀ i₀ first second i = (i ≤ 14) × Laned (wordOf b) i 0 first second
+Inv-loop b n first₀ second₀ i₀ i-end first second i = (i ≤ n + 1) × (i-end ≡ n + 1) × Laned (wordOf b) i 0 first second
 
 abbrev μ-loop : tie.MeasureT-loop
-μ-loop b first₀ second₀ i₀ first second i = 14 - i
+μ-loop b n first₀ second₀ i₀ i-end first second i = n + 1 - i
 
 abbrev Inv-loop3 : tie.InvT-loop3
-Inv-loop3 b first second s₀ t₀ k₀ s t k = (k ≤ 9) × Laned (wordOf b) 14 0 first second × (s ≡ running (λ l. getD first l 0) k) × (t ≡ sumBelow k (λ l. getD second l 0) % 2 ^ 32)
+Inv-loop3 b n first second s₀ t₀ k₀ s t k = (k ≤ 6) × Laned (wordOf b) (n + 1) 0 first second × (s ≡ running (λ l. getD first l 0) k) × (t ≡ sumBelow k (λ l. getD second l 0) % 2 ^ 32)
 
 abbrev μ-loop3 : tie.MeasureT-loop3
-μ-loop3 b first second s₀ t₀ k₀ s t k = 9 - k
+μ-loop3 b n first second s₀ t₀ k₀ s t k = 6 - k
+
+add-i-end : tie.Need-add-i-end Inv-loop2 μ-loop2 Inv-loop μ-loop Inv-loop3 μ-loop3
+add-i-end c = search needs
 
 loop-holds : tie.Need-loop-holds Inv-loop2 μ-loop2 Inv-loop μ-loop Inv-loop3 μ-loop3
-loop-holds c = (search needs, lanes-begin _)
+loop-holds c = (search needs, search needs, lanes-begin _)
 
 loop2-holds : tie.Need-loop2-holds Inv-loop2 μ-loop2 Inv-loop μ-loop Inv-loop3 μ-loop3
 loop2-holds c = search needs
@@ -90,10 +94,11 @@ loop2-less c = search needs
 loop2-again : tie.Need-loop2-again Inv-loop2 μ-loop2 Inv-loop μ-loop Inv-loop3 μ-loop3
 loop2-again c = let l = c .before .before .before .before .loop2 in
     let i = c .before .before .before .before .before .before .loop .i in
-    let at : i * 36 + l .k * 4 ≡ (i * 9 + l .k) * 4 = omega arith in (
+    let at : i * 24 + l .k * 4 ≡ (i * 6 + l .k) * 4 = omega arith in (
       search needs,
       search needs,
-      rw (c .wrapping-add-u322 .ensures, c .before .word-in .ensures, at, c .before .before .wrapping-add-u32 .ensures) (lanes-turn (wordOf (c .before .before .before .before .before .before .before .before .args .b .now)) i (l .k) (l .first) (l .second) (l .inv .2) (omega arith)),
+      search needs,
+      rw (c .wrapping-add-u322 .ensures, c .before .word-in .ensures, at, c .before .before .wrapping-add-u32 .ensures) (lanes-turn (wordOf (c .before .before .before .before .before .before .before .before .args .b .now)) i (l .k) (l .first) (l .second) (l .inv .3) (omega arith)),
     )
 
 add-i : tie.Need-add-i Inv-loop2 μ-loop2 Inv-loop μ-loop Inv-loop3 μ-loop3
@@ -104,13 +109,13 @@ loop-less c = search needs
 
 loop-again : tie.Need-loop-again Inv-loop2 μ-loop2 Inv-loop μ-loop Inv-loop3 μ-loop3
 loop-again c = let l = c .before .loop2 in
-    (search needs, lanes-next (wordOf (c .before .before .before .before .before .args .b .now)) (c .before .before .before .loop .i) (l .k) (l .first) (l .second) (l .inv .2) (omega arith))
+    (search needs, search needs, lanes-next (wordOf (c .before .before .before .before .before .args .b .now)) (c .before .before .before .loop .i) (l .k) (l .first) (l .second) (l .inv .3) (omega arith))
 
 loop3-holds : tie.Need-loop3-holds Inv-loop2 μ-loop2 Inv-loop μ-loop Inv-loop3 μ-loop3
 unfolding sumBelow running
 loop3-holds c = let l = c .before .loop in
-    let e : l .i ≡ 14 = omega arith in
-    (search needs, rw e at (l .inv .1), refl, refl)
+    let e : l .i ≡ c .before .before .before .args .n + 1 = omega arith in
+    (search needs, rw e at (l .inv .2), refl, refl)
 
 mul-grow : tie.Need-mul-grow Inv-loop2 μ-loop2 Inv-loop μ-loop Inv-loop3 μ-loop3
 mul-grow c = search needs
@@ -148,18 +153,20 @@ loop3-again c = let l = c .before .before .before .loop3 in (
   rw (c .wrapping-add-u323 .ensures, l .inv .3, add-one (l .k)) (drop-left _ _),
 )
 
-nine-times-requires :
-    tie.Need-nine-times-requires Inv-loop2 μ-loop2 Inv-loop μ-loop Inv-loop3 μ-loop3
-nine-times-requires c κs = search needs
+sub-joined : tie.Need-sub-joined Inv-loop2 μ-loop2 Inv-loop μ-loop Inv-loop3 μ-loop3
+sub-joined c = search needs
 
-wrapping-add-u32-requires-4 :
-    tie.Need-wrapping-add-u32-requires-4 Inv-loop2 μ-loop2 Inv-loop μ-loop Inv-loop3 μ-loop3
-wrapping-add-u32-requires-4 c κs = search needs
+joined-requires : tie.Need-joined-requires Inv-loop2 μ-loop2 Inv-loop μ-loop Inv-loop3 μ-loop3
+joined-requires c κs = search needs
 
 returns : tie.Need-returns Inv-loop2 μ-loop2 Inv-loop μ-loop Inv-loop3 μ-loop3
-returns c = let l = c .before .before .before .loop3 in
-    let e : l .k ≡ 9 = omega arith in
-    rw (c .wrapping-add-u324 .ensures, c .before .nine-times .ensures, l .inv .2, e) (lanes-join _ _ _ (l .t) (l .inv .1) (rw e at (l .inv .3)))
+returns c = let l = c .before .before .loop3 in
+    let m = c .before .before .before .before .loop in
+    let a = c .before .before .before .before .before .before .args in
+    let e : l .k ≡ 6 = omega arith in
+    c .joined .ensures ∙
+    rw (l .inv .2, e)
+    (lanes-join (a .b .now) (m .first) (m .second) (a .n) (l .t) (search needs) (λ w h q. number-none 4 (a .b .now) (24 + a .n * 24) (480 - a .n * 24) (w * 4) (search needs) (omega arith) (omega arith)) (l .inv .1) (rw e at (l .inv .3)))
 
 pub sums-of-spec : {M : Type 1} → statement M
 sums-of-spec =
@@ -171,6 +178,7 @@ sums-of-spec =
     μ-loop
     Inv-loop3
     μ-loop3
+    add-i-end
     loop-holds
     loop2-holds
     mul-sum
@@ -203,6 +211,6 @@ sums-of-spec =
     add-k-2
     loop3-less
     loop3-again
-    nine-times-requires
-    wrapping-add-u32-requires-4
+    sub-joined
+    joined-requires
     returns)

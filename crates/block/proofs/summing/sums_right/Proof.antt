@@ -1,3 +1,4 @@
+use Rattle.block.proofs.Zeros.{zero-none}
 use borrow.Author.Needs.{needs}
 use borrow.Author.Tests.{eq-eqb, ne-eqb}
 use Rattle.block.specs.Sums.{sumsRight}
@@ -9,7 +10,7 @@ unfolding sumsRight
 returns c = rw (ne-eqb _ _ (c .if1 .taken))
 
 sums-of-requires : tie.Need-sums-of-requires
-sums-of-requires c κs = search needs
+sums-of-requires c κs = (search needs, search needs, zero-none _ _)
 
 word-in-requires : tie.Need-word-in-requires
 word-in-requires c κs = search needs

@@ -4,7 +4,7 @@ use mathlib.Core.Path.{_≡_, refl, ap, _∙_}
 use native.Mathlib.Omega.{arith}
 use borrow.Author.Needs.{needs}
 use borrow.Author.Tests.{lt-ltb, le-ltb}
-use Rattle.below.proofs.Tests.{or-true}
+use Rattle.below.proofs.Tests.{or-true, or-false}
 use Rattle.block.specs.Bytes.{longAt}
 use Rattle.block.proofs.Numbers.{AreBytes}
 use Rattle.form.proofs.Opened.{timeOut, record-opened}
@@ -13,10 +13,6 @@ use Rattle.form.proofs.block_form.record_out.Tie as tie
 
 longs-at-requires : tie.Need-longs-at-requires
 longs-at-requires c κs = search needs
-
-or-false : (a : Bool) → (a || false) ≡ a
-or-false true = refl
-or-false false = refl
 
 returns : tie.Need-returns
 returns c = let s = c .before .before .before .before .args .«record» .now in

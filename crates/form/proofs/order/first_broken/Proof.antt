@@ -1,13 +1,12 @@
 use Prim.Native.Nat.{_≤_, _-_}
-use mathlib.Core.Path.{_≡_, refl, sym, _∙_}
+use mathlib.Core.Path.{_≡_, sym, _∙_}
 use native.Mathlib.Omega.{arith}
-use borrow.Author.Needs.{needs}
-use Rattle.below.proofs.Search.{NoneBelow, none-zero, none-more}
-use Rattle.below.proofs.Tests.{true-not-false}
+use Rattle.below.proofs.Search.{NoneBelow, none-zero, none-more, first-is, first-end}
 use Rattle.plan.specs.Periods.{blocksOf}
-use Rattle.form.proofs.Formed.{brokenAt, none-broken}
-use Rattle.form.proofs.order.is_right.Statement.{statement}
-use Rattle.form.proofs.order.is_right.Tie as tie
+use Rattle.form.specs.Front.{brokenAt}
+use borrow.Author.Needs.{needs}
+use Rattle.form.proofs.order.first_broken.Statement.{statement}
+use Rattle.form.proofs.order.first_broken.Tie as tie
 
 abbrev Inv-loop : tie.InvT-loop
 Inv-loop plan n b₀ b = (b ≤ n) × (n ≡ blocksOf plan) × NoneBelow (brokenAt plan) b
@@ -25,7 +24,7 @@ is-broken-requires : tie.Need-is-broken-requires Inv-loop μ-loop
 is-broken-requires c κs = search needs
 
 returns : tie.Need-returns Inv-loop μ-loop
-returns c = λ e. absurd (true-not-false e refl)
+returns c = sym (first-is _ (search needs) (c .before .before .before .loop .inv .2) (sym (c .before .is-broken .ensures) ∙ c .if1 .taken))
 
 add-b : tie.Need-add-b Inv-loop μ-loop
 add-b c = search needs
@@ -37,10 +36,10 @@ loop-again : tie.Need-loop-again Inv-loop μ-loop
 loop-again c = (search needs, search needs, none-more _ (c .before .before .before .loop .inv .2) (sym (c .before .is-broken .ensures) ∙ c .if1 .left))
 
 returns-2 : tie.Need-returns-2 Inv-loop μ-loop
-returns-2 c = λ e. none-broken (c .before .before .before .args .plan .now) (λ b l. c .before .loop .inv .2 b (omega arith))
+returns-2 c = c .before .loop .inv .1 ∙ sym (first-end _ (omega arith) (c .before .loop .inv .2))
 
-pub is-right-spec : {M : Type 1} → statement M
-is-right-spec =
+pub first-broken-spec : {M : Type 1} → statement M
+first-broken-spec =
     tie.close
     (tie.spec
     Inv-loop
