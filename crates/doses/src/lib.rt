@@ -6,7 +6,7 @@ use plan::doses_of;
 use plan::first_of;
 use plan::interval_of;
 use plan::is_marked;
-use plan::is_period;
+use plan::kind_of;
 use plan::last_of;
 use plan::upper_of;
 ghost use mathlib.Core.Path.{_≡_};
@@ -19,7 +19,13 @@ pub fn is_covering(plan: &[u8], day: u32, b: u8) -> bool
     ensures { λ r. ⌜ r ≡ covers (now (plan .entry)) day b ⌝ }
 {
     let block = block_of(plan, b as u16);
-    is_period(plan, b) & ((first_of(block) <= day) & (day <= last_of(block)))
+    if kind_of(block) != 2 {
+        return false;
+    }
+    if day < first_of(block) {
+        return false;
+    }
+    day <= last_of(block)
 }
 
 fn wide(x: u32) -> u64
