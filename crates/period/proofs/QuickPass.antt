@@ -8,7 +8,7 @@ use native.Mathlib.Nat.{eq-or-lt-of-le}
 use native.Mathlib.Omega.{arith}
 use lib.Dec.{eqb, leb, ltb}
 use borrow.Author.Count.{below-more}
-use borrow.Author.Tests.{eq-eqb, eqb-true, eqb-false, ne-eqb, ltb-true, lt-ltb, le-ltb, le-leb, leb-true, leb-false, not-true, not-false}
+use borrow.Author.Tests.{eq-eqb, eqb-true, eqb-false, ne-eqb, ltb-true, lt-ltb, le-ltb, le-leb, lt-leb, leb-true, leb-false, not-false}
 use Rattle.below.specs.Below.{anyBelow, countBelow, sumBelow, largestBelow}
 use Rattle.below.proofs.Search.{NoneBelow, any-hit, any-none, any-not}
 use Rattle.below.proofs.Tests.{bool-cases, true-not-false, not-true-false, bool-iff, and-both, both-and, or-either, or-neither, neither-or, le-or-lt}
@@ -267,14 +267,13 @@ module _ (p : List ℕ) (b limit n : ℕ) (s : Quick) (limits : limit ≡ limitO
       (by-doses 13 (omega arith) (omega arith) (thirteen D limit n s done)))
       (by-sum (fourteen D limit n s done e14))
 
--- all of six tests hold
-pub all-six : (a b c d e f : Bool) → (a && b && c && d && e && f) ≡ true → (a ≡ true) × (b ≡ true) × (c ≡ true) × (d ≡ true) × (e ≡ true) × (f ≡ true)
-all-six false b c d e f h = absurd (true-not-false h refl)
-all-six true false c d e f h = absurd (true-not-false h refl)
-all-six true true false d e f h = absurd (true-not-false h refl)
-all-six true true true false e f h = absurd (true-not-false h refl)
-all-six true true true true false f h = absurd (true-not-false h refl)
-all-six true true true true true f h = (refl, refl, refl, refl, refl, h)
+-- a round has one day at least, so that a sum below one day's is not too much
+pub too-little : (limit : ℕ) {total : ℕ} → total < 100000000000 → false ≡ leb (100000000000 * cond (eqb limit 0) 1 limit) total
+too-little limit {total} l =
+    ⊎-elim
+    (λ (z : eqb limit 0 ≡ true). rw z (sym (lt-leb (100000000000 * 1) total (omega arith))))
+    (λ z. rw z (sym (lt-leb (100000000000 * limit) total (omega (arith, eqb-false limit 0 z)))))
+    (bool-cases (eqb limit 0))
 
 -- the comparison of rule 14, by which nothing can grow too large
 pub by-quotient : (limit total : ℕ) → leb limit (total / 100000000000) ≡ leb (100000000000 * limit) total

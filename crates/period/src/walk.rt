@@ -60,7 +60,7 @@ fn next_rule(s: Walk, d: Dose, j: u16) -> u8
 }
 
 // Dose i of a block. Of a whole block it is read with no test that changes with i.
-pub(crate) fn dose_near(r: &[u8], i: u8) -> Dose
+fn dose_near(r: &[u8], i: u8) -> Dose
     requires { ⌜ i < 20 ⌝ }
     ensures { λ d. ⌜ d ≡ doseOf (recordAt (now (r .entry)) i) ⌝ }
 {

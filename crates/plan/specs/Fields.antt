@@ -7,6 +7,7 @@ use lib.ListN.{take, drop}
 use Rattle.block.specs.Bytes.{byteAt, halfAt, wordAt, longAt}
 use Rattle.day.specs.Days.{closedDay}
 use Rattle.plan.specs.declared.Dose.{Dose}
+use Rattle.plan.specs.declared.Header.{Header}
 
 -- "Head: byte 0 = 1"; "Period: byte 0 = 2"; "Continuation: byte 0 = 3"
 abbrev pub kindOf : List ℕ → ℕ
@@ -31,6 +32,10 @@ endOf r = wordAt r 8
 -- "An open last day counts as 73,048."
 abbrev pub lastOf : List ℕ → ℕ
 lastOf r = closedDay (endOf r)
+
+-- "2-3 iteration interval ..; 4-7 first day; 8-11 last day or open", together
+abbrev pub headerOf : List ℕ → Header
+headerOf r = record { interval = intervalOf r; first = firstOf r; end = endOf r }
 
 -- "2-3 unit number, unexamined"
 abbrev pub unitOf : List ℕ → ℕ

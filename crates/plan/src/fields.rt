@@ -1,12 +1,13 @@
 // The fields of a block and of a dose record.
 use crate::Dose;
+use crate::Header;
 use block::byte_at;
 use block::half_at;
 use block::longs_at;
 use block::word_at;
 use day::Day;
 ghost use mathlib.Core.Path.{_≡_};
-ghost use Rattle.plan.specs.Fields.{kindOf, countOf, intervalOf, firstOf, endOf, lastOf, unitOf, planNumberOf, revisionOf, vkaOf, recordAt, doseOf, isMarked, upperOf};
+ghost use Rattle.plan.specs.Fields.{kindOf, countOf, intervalOf, firstOf, endOf, lastOf, headerOf, unitOf, planNumberOf, revisionOf, vkaOf, recordAt, doseOf, isMarked, upperOf};
 
 // 1 for a head, 2 for a period, 3 for a continuation.
 pub fn kind_of(r: &[u8]) -> u8
@@ -49,6 +50,25 @@ pub fn last_of(r: &[u8]) -> u32
 {
     let last = Day::new(end_of(r)).closed();
     last.number
+}
+
+// The interval and both days together: of a part of known length they are read behind one test instead of three.
+pub fn header_of(r: &[u8]) -> Header
+    ensures { λ h. ⌜ h ≡ headerOf (now (r .entry)) ⌝ }
+{
+    if 12 <= r.len() {
+        let h = &r[..12];
+        return Header {
+            interval: half_at(h, 2),
+            first: word_at(h, 4),
+            end: word_at(h, 8),
+        };
+    }
+    Header {
+        interval: interval_of(r),
+        first: first_of(r),
+        end: end_of(r),
+    }
 }
 
 pub fn unit_of(r: &[u8]) -> u16

@@ -8,6 +8,7 @@ pub use fields::dose_at;
 pub use fields::dose_of;
 pub use fields::end_of;
 pub use fields::first_of;
+pub use fields::header_of;
 pub use fields::interval_of;
 pub use fields::is_marked;
 pub use fields::kind_of;
@@ -34,4 +35,11 @@ pub struct Dose {
     pub minute: u16,
     pub low: u64,
     pub high: u64,
+}
+
+// What a period's first block says of it. Of a head, the two days are the treatment's.
+pub struct Header {
+    pub interval: u16,
+    pub first: u32,
+    pub end: u32,
 }
