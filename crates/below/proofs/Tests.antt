@@ -57,7 +57,7 @@ pub or-false : (a : Bool) → (a || false) ≡ a
 or-false true = refl
 or-false false = refl
 
-pub or-assoc : (a b c : Bool) → (a || (b || c)) ≡ (a || b || c)
+pub or-assoc : (a b c : Bool) → (a || b || c) ≡ (a || (b || c))
 or-assoc true b c = refl
 or-assoc false b c = refl
 

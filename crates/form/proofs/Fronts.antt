@@ -60,7 +60,7 @@ module _ (r : List ℕ) (long : length r ≡ 512) where
 
   continuation-front : continuationOut r ≡ (continuationFront r || behindOut r (countOf r))
   unfolding continuationOut
-  continuation-front = rw doses-front (or-assoc (eqb (countOf r) 0 || notZero r 2 24) (recordsOut r) (behindOut r (countOf r)))
+  continuation-front = rw doses-front (sym (or-assoc (eqb (countOf r) 0 || notZero r 2 24) (recordsOut r) (behindOut r (countOf r))))
 
   -- rule 4 of a block, by its kind
   block-front : blockOut r ≡ (frontOut r || behindOut r (recordsOf r))

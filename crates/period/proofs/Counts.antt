@@ -9,7 +9,7 @@ use lib.Dec.{ltb}
 use borrow.Author.Tests.{lt-ltb, ltb-true}
 use Rattle.below.specs.Below.{anyBelow, countBelow}
 use Rattle.below.proofs.Search.{any-zero, any-more}
-use Rattle.below.proofs.Tests.{bool-cases, bool-iff, or-true, le-or-lt}
+use Rattle.below.proofs.Tests.{bool-cases, bool-iff, or-true, or-false, le-or-lt}
 use Rattle.below.proofs.Total.{count-zero, count-more, count-le}
 
 count-none : (q : ℕ → Bool) (n : ℕ) → ((i : ℕ) → i < n → q i ≡ false) → countBelow n q ≡ 0
@@ -31,10 +31,6 @@ count-from q a (suc n) l none all =
     (omega (arith, count-none q n (λ i x. none i (omega arith)))))
     (le-or-lt a n)
 
-or-not : (a : Bool) → (a || false) ≡ a
-or-not true = refl
-or-not false = refl
-
 module _ (p : ℕ → Bool) where
   -- there is one
   pub any-count : (n : ℕ) → anyBelow n p ≡ ltb 0 (countBelow n p)
@@ -43,7 +39,7 @@ module _ (p : ℕ → Bool) where
       rw (← add-one n, any-more p n, count-more p n, any-count n)
       (⊎-elim
       (λ (t : p n ≡ true). rw (t, or-true, lt-ltb 0 (countBelow n p + 1) (omega arith)))
-      (λ (t : p n ≡ false). rw (t, or-not) (let z : countBelow n p + 0 ≡ countBelow n p = omega arith in rw z))
+      (λ (t : p n ≡ false). rw (t, or-false) (let z : countBelow n p + 0 ≡ countBelow n p = omega arith in rw z))
       (bool-cases (p n)))
 
   step : (m n : ℕ) → ltb m n ≡ ltb (m + 1) (n + 1)
@@ -58,6 +54,6 @@ module _ (p : ℕ → Bool) where
   any-not-count (suc n) =
       rw (← add-one n, any-more (λ (i : ℕ). not (p i)) n, count-more p n, any-not-count n)
       (⊎-elim
-      (λ (t : p n ≡ true). rw (t, or-not) (step (countBelow n p) n))
+      (λ (t : p n ≡ true). rw (t, or-false) (step (countBelow n p) n))
       (λ (t : p n ≡ false). rw (t, or-true, lt-ltb (countBelow n p + 0) (n + 1) (omega (arith, count-le p n))))
       (bool-cases (p n)))

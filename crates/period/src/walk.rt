@@ -9,10 +9,8 @@ use crate::turn::turn;
 use plan::Dose;
 use plan::block_of;
 use plan::dose_at;
-use plan::dose_of;
 ghost use mathlib.Core.Path.{_≡_};
 ghost use Prim.Native.Nat.{_+_, _*_, _≤_, _<_, min};
-ghost use Rattle.plan.specs.Fields.{doseOf, recordAt};
 ghost use Rattle.period.specs.Turn.{lowest, ruleWith, nextRule, Passed};
 
 // The lowest broken rule, by the test of each; 14 where none is.
@@ -59,19 +57,6 @@ fn next_rule(s: Walk, d: Dose, j: u16) -> u8
     s.rule
 }
 
-// Dose i of a block. Of a whole block it is read with no test that changes with i.
-fn dose_near(r: &[u8], i: u8) -> Dose
-    requires { ⌜ i < 20 ⌝ }
-    ensures { λ d. ⌜ d ≡ doseOf (recordAt (now (r .entry)) i) ⌝ }
-{
-    if 504 <= r.len() {
-        let at = 24 + (i as usize) * 24;
-        let end = at + 24;
-        return dose_of(&r[at..end]);
-    }
-    dose_at(r, i)
-}
-
 // The first m doses of block q of the period, the pass having come to that block.
 fn walk_block(plan: &[u8], b: u8, q: u16, m: u16, s0: Walk) -> Walk
     requires { ⌜ (m ≤ 20) × (q * 20 + m ≤ 1515) ⌝ }
@@ -82,7 +67,7 @@ fn walk_block(plan: &[u8], b: u8, q: u16, m: u16, s0: Walk) -> Walk
     let mut s = s0;
     for i in 0..m {
         let j = q * 20 + i;
-        let d = dose_near(r, i as u8);
+        let d = dose_at(r, i as u8);
         let t = turn(s, d, j, next_rule(s, d, j));
         s = t;
     }

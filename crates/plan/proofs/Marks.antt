@@ -9,6 +9,7 @@ use lib.ListN.{length, drop, length-drop}
 use lib.Seq.{length-take-le, getD-take, getD-drop}
 use Rattle.below.proofs.Search.{any-zero, any-more, any-same}
 use Rattle.below.specs.Below.{anyBelow}
+use Rattle.below.proofs.Tests.{or-false, or-assoc}
 use Rattle.block.specs.Bytes.{byteAt}
 use Rattle.plan.specs.Fields.{recordAt, doseOf, isMarked}
 use Rattle.plan.specs.Periods.{blockAt, doseIn}
@@ -33,14 +34,6 @@ at-place p b i k q =
     let x : (i * 20 + k) / 20 ≡ i = omega arith in
     let y : (i * 20 + k) % 20 ≡ k = omega arith in
     rw (x, y)
-
-or-false : (a : Bool) → (a || false) ≡ a
-or-false true = refl
-or-false false = refl
-
-or-assoc : (a b c : Bool) → ((a || b) || c) ≡ (a || (b || c))
-or-assoc true b c = refl
-or-assoc false b c = refl
 
 -- some of the first a, or some of the m behind them
 any-split : (q : ℕ → Bool) (a m : ℕ) → anyBelow (a + m) q ≡ (anyBelow a q || anyBelow m (λ k. q (a + k)))

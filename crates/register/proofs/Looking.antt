@@ -9,7 +9,7 @@ use lib.ListN.{length, getD, set, replicate, length-set}
 use lib.Seq.{getD-set-same, getD-set-other}
 use borrow.Author.Count.{below-more}
 use Rattle.below.proofs.Search.{NoneBelow, none-zero, none-more, any-zero, any-more, any-hit, any-none, any-same, all-at, all-every}
-use Rattle.below.proofs.Tests.{true-not-false, not-true-false, and-false}
+use Rattle.below.proofs.Tests.{true-not-false, not-true-false, and-false, or-false}
 use Rattle.below.specs.Below.{anyBelow, allBelow}
 use Rattle.plan.specs.Fields.{planNumberOf}
 use Rattle.register.specs.Slots.{slotsOf, slotAt, isFree, planIn, holdsAt}
@@ -56,10 +56,6 @@ module _ {r : List ℕ} {i : ℕ} {numbers : List ℕ} {held : ℕ} (w : Looked 
         known = λ number.
             any-more (holdsAt r number) i ∙ rw (none number, w .known number) (or-false (among numbers held number));
       }
-    where
-      or-false : (b : Bool) → (b || false) ≡ b
-      or-false true = refl
-      or-false false = refl
 
   -- a held plan more, whose number the table does not have yet
   pub looked-held : i < 64 → isFree s ≡ false → {number : ℕ} → number ≡ planNumberOf (planIn s) → among numbers held number ≡ false → Looked r (i + 1) (set numbers held number) (held + 1)

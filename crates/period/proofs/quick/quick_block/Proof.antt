@@ -1,6 +1,6 @@
 use Prim.Native.Nat.{ℕ, _+_, _*_, _-_, _≤_}
 use mathlib.Core.List.{List}
-use mathlib.Core.Path.{_≡_, ap, _∙_}
+use mathlib.Core.Path.{_≡_, sym, ap, _∙_}
 use native.Mathlib.Omega.{arith}
 use Rattle.below.proofs.Tests.{true-not-false}
 use Rattle.plan.specs.Fields.{recordAt, doseOf}
@@ -8,7 +8,7 @@ use Rattle.plan.specs.Periods.{doseIn, blockAt}
 use Rattle.plan.proofs.Parts.{part-whole}
 use Rattle.period.specs.Quick.{Quickly}
 use Rattle.period.proofs.QuickPass.{quick-more}
-use Rattle.period.proofs.Steps.{in-block}
+use Rattle.plan.proofs.Marks.{at-place}
 use borrow.Author.Needs.{needs}
 use Rattle.period.proofs.quick.quick_block.Statement.{statement}
 use Rattle.period.proofs.quick.quick_block.Tie as tie
@@ -110,7 +110,7 @@ unfolding blockAt
 dose c = let a = c .before .before .before .before .before .before .before .args in
     let i = c .before .before .before .loop .i in
     let block = part-whole (a .plan .now) ((a .b + a .q) * 512) 512 {e = (a .b + a .q) * 512 + 512} (omega arith) in
-    c .dose-of .ensures ∙ ap doseOf (part-whole _ (24 + i * 24) 24 (omega arith)) ∙ ap (λ (r : List ℕ). doseOf (recordAt r i)) block ∙ in-block (a .plan .now) (a .b) (a .q) i (omega arith)
+    c .dose-of .ensures ∙ ap doseOf (part-whole _ (24 + i * 24) 24 (omega arith)) ∙ ap (λ (r : List ℕ). doseOf (recordAt r i)) block ∙ sym (at-place (a .plan .now) (a .b) (a .q) i (omega arith))
 
 loop-again : tie.Need-loop-again Inv-loop μ-loop
 loop-again c = let a = c .before .before .before .before .before .before .before .before .before .before .before .before .before .args in

@@ -1,10 +1,11 @@
 use Prim.Native.Nat.{_+_, _*_, _-_, _≤_}
-use mathlib.Core.Path.{_≡_, _∙_}
+use mathlib.Core.Path.{_≡_, sym, _∙_}
 use native.Mathlib.Omega.{arith}
 use borrow.Author.Needs.{needs}
 use Rattle.plan.specs.Periods.{doseIn}
 use Rattle.period.specs.Turn.{Passed}
-use Rattle.period.proofs.Steps.{in-block, one-more}
+use Rattle.plan.proofs.Marks.{at-place}
+use Rattle.period.proofs.Steps.{one-more}
 use Rattle.period.proofs.walk.walk_block.Statement.{statement}
 use Rattle.period.proofs.walk.walk_block.Tie as tie
 
@@ -30,11 +31,11 @@ mul-j c = search needs
 add-j : tie.Need-add-j Inv-loop μ-loop
 add-j c = search needs
 
-cast-dose-near : tie.Need-cast-dose-near Inv-loop μ-loop
-cast-dose-near c = search needs
+cast-dose-at : tie.Need-cast-dose-at Inv-loop μ-loop
+cast-dose-at c = search needs
 
-dose-near-requires : tie.Need-dose-near-requires Inv-loop μ-loop
-dose-near-requires c κs = search needs
+dose-at-requires : tie.Need-dose-at-requires Inv-loop μ-loop
+dose-at-requires c κs = search needs
 
 next-rule-requires : tie.Need-next-rule-requires Inv-loop μ-loop
 next-rule-requires c κs = search needs
@@ -54,8 +55,8 @@ loop-again c =
     let w = c .before .before .before .before .loop .inv .1 in
     let i = c .before .before .before .before .loop .i in
     let e : a .q * 20 + (i + 1) ≡ a .q * 20 + i + 1 = omega arith in
-    let here = in-block (a .plan .now) (a .b) (a .q) i (omega arith) in
-    let dose = c .before .before .dose-near .ensures ∙ rw (← c .before .before .before .before .before .block-of .ensures) at here in (
+    let here = sym (at-place (a .plan .now) (a .b) (a .q) i (omega arith)) in
+    let dose = c .before .before .dose-at .ensures ∙ rw (← c .before .before .before .before .before .block-of .ensures) at here in (
       search needs,
       rw e (record {
         kept = one-more (doseIn (a .plan .now) (a .b)) (w .kept) dose (c .before .next-rule .ensures) (c .turn .ensures .0);
@@ -78,8 +79,8 @@ walk-block-spec =
     loop-holds
     mul-j
     add-j
-    cast-dose-near
-    dose-near-requires
+    cast-dose-at
+    dose-at-requires
     next-rule-requires
     turn-requires
     add-i
