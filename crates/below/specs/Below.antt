@@ -1,6 +1,6 @@
 -- Searches, counts and sums over the numbers 0, 1, .., n - 1: the words "first", "a", "every", "more than", "sum" and "largest" of the rules.
 use Prim.Native.Nat.{ℕ, zero, suc, _+_, max}
-use mathlib.Core.Bool.{Bool, true, false, cond, _&&_}
+use mathlib.Core.Bool.{Bool, true, cond, _&&_}
 use lib.Dec.{ltb}
 
 -- the least of i, i + 1, .., i + n - 1 that has p, or i + n where none has it

@@ -3,7 +3,6 @@ use Prim.Native.Nat.{ℕ, _<_}
 use mathlib.Core.Path.{_≡_}
 use mathlib.Core.Bool.{Bool, true, cond, not, _||_}
 use lib.Dec.{eqb, leb, ltb}
-use Rattle.day.specs.declared.Day.{Day}
 use Rattle.day.specs.declared.Date.{Date}
 use Rattle.day.specs.declared.Named.{Named}
 use Rattle.day.specs.declared.Named.the-variants.{On, NoDate}

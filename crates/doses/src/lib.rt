@@ -10,9 +10,8 @@ use plan::kind_of;
 use plan::last_of;
 use plan::upper_of;
 ghost use mathlib.Core.Path.{_≡_};
-ghost use Prim.Native.Nat.{_-_, _<_, _≤_, min};
-ghost use lib.ListN.{length};
-ghost use Rattle.doses.specs.Doses.{covers, positionOf, applies, dosesOfPeriod, grown, added, addedAll, noSums, daySums};
+ghost use Prim.Native.Nat.{_-_, _<_, min};
+ghost use Rattle.doses.specs.Doses.{covers, positionOf, applies, dosesOfPeriod, grown, added, addedAll, daySums};
 
 // Has the period at block b this day?
 pub fn is_covering(plan: &[u8], day: u32, b: u8) -> bool

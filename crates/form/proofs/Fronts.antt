@@ -3,19 +3,18 @@ use Prim.Native.Nat.{ℕ, _+_, _-_, _*_, _≤_}
 use mathlib.Core.Bool.{Bool, true, false, not, _&&_, _||_}
 use mathlib.Core.List.{List}
 use mathlib.Core.Logic.{⊎-elim}
-use mathlib.Core.Path.{_≡_, refl, sym, ap, _∙_}
+use mathlib.Core.Path.{_≡_, refl, sym}
 use native.Mathlib.Omega.{arith}
 use lib.Dec.{eqb, ltb}
 use lib.ListN.{length}
 use borrow.Author.Tests.{ltb-false, le-leb}
-use Rattle.below.specs.Below.{anyBelow}
 use Rattle.below.proofs.Tests.{bool-cases, or-neither, or-assoc}
 use Rattle.block.specs.Bytes.{byteAt, numberAt, wordAt, longAt}
 use Rattle.block.specs.Sums.{sumsRight}
 use Rattle.block.specs.Zeros.{zeroIn, endsRight}
 use Rattle.block.proofs.Zeros.{zero-split, number-zero, part-zero}
-use Rattle.plan.specs.Fields.{kindOf, countOf, recordAt}
-use Rattle.form.specs.Form.{daysOut, notZero, recordOut, dosesOut, headOut, periodOut, continuationOut, blockOut}
+use Rattle.plan.specs.Fields.{kindOf, countOf}
+use Rattle.form.specs.Form.{daysOut, notZero, dosesOut, headOut, periodOut, continuationOut, blockOut}
 use Rattle.form.specs.Front.{recordsOut, headFront, periodFront, continuationFront, frontOut, recordsOf}
 use Rattle.form.proofs.Zeroed.{past}
 

@@ -1,17 +1,15 @@
 -- Zero bytes read as numbers. Assumes nothing.
 use Prim.Native.Nat.{ℕ, _+_, _≤_, _<_}
-use mathlib.Core.Bool.{Bool, true, false, not, _&&_, _||_}
+use mathlib.Core.Bool.{true, false, not, _||_}
 use mathlib.Core.List.{List}
 use mathlib.Core.Logic.{⊎-elim}
-use mathlib.Core.Path.{_≡_, refl, sym, _∙_}
-use native.Mathlib.Omega.{arith}
+use mathlib.Core.Path.{_≡_, sym, _∙_}
 use lib.Dec.{eqb, ltb}
 use lib.ListN.{length, take, drop}
 use borrow.Author.Tests.{eqb-true, eqb-false, lt-ltb}
 use Rattle.below.proofs.Tests.{bool-cases, or-true, or-false}
-use Rattle.block.specs.Bytes.{byteAt, numberAt, wordAt, longAt, isZero}
-use Rattle.block.specs.Zeros.{zeroIn}
-use Rattle.block.proofs.Zeros.{zero-split, number-zero, part-zero}
+use Rattle.block.specs.Bytes.{numberAt, isZero}
+use Rattle.block.proofs.Zeros.{number-zero, part-zero}
 
 -- a part of w bytes is zero where its number is
 pub number-part-zero : (w : ℕ) (r : List ℕ) (a : ℕ) → a + w ≤ length r → isZero (take w (drop a r)) ≡ eqb (numberAt w r a) 0

@@ -8,7 +8,6 @@ use Rattle.below.specs.Below.{anyBelow}
 use Rattle.day.specs.Days.{isNoSpan}
 use Rattle.block.specs.Bytes.{isZero}
 use Rattle.block.specs.Sums.{sumsRight}
-use Rattle.refusal.specs.declared.Refusal.{Refusal}
 use Rattle.refusal.specs.Refusals.{ruleAt}
 use Rattle.refusal.specs.Order.{lowestRule, lowestBlock}
 use Rattle.plan.specs.declared.Dose.{Dose}

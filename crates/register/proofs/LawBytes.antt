@@ -4,7 +4,7 @@ use mathlib.Core.List.{List, [], _∷_, _++_}
 use native.Mathlib.Omega.{arith}
 use lib.ListN.{length}
 use Rattle.block.proofs.Numbers.{AreBytes}
-use Rattle.block.specs.Bytes.{bytesOf, put}
+use Rattle.block.specs.Bytes.{bytesOf}
 use Rattle.layout.proofs.Blocks.{length-filled}
 use Rattle.layout.proofs.Bytes.{Bytes, every-byte, are-bytes, part-bytes, of-number, zero-bytes, put-bytes, sealed-bytes}
 use Rattle.layout.proofs.Every.{every-append, every-drop, every-join}

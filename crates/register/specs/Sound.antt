@@ -1,9 +1,9 @@
 -- "A register is sound if ..", as tests on its bytes.
-use Prim.Native.Nat.{ℕ, _-_}
+use Prim.Native.Nat.{ℕ}
 use mathlib.Core.Bool.{Bool, true, false, cond, not, _&&_, _||_}
 use mathlib.Core.List.{List}
 use lib.Dec.{eqb, leb, ltb}
-use lib.ListN.{length, take, drop}
+use lib.ListN.{take, drop}
 use Rattle.below.specs.Below.{allBelow, anyBelow}
 use Rattle.block.specs.Bytes.{byteAt, isZero}
 use Rattle.block.specs.Sums.{sumsRight}

@@ -8,7 +8,6 @@ use Rattle.block.specs.Bytes.{bytesOf, put}
 use Rattle.refusal.specs.Refusals.{alone, codeOf, doneCode}
 use Rattle.verdict.specs.declared.Answer.{Answer}
 use Rattle.verdict.specs.declared.Answer.the-variants.{Accepted, Broken}
-use Rattle.verdict.specs.Verdict.{codeOfAnswer}
 use Rattle.supply.specs.declared.Supply.{Supply}
 use Rattle.supply.specs.declared.Supply.the-variants as supply
 use Rattle.split.specs.declared.Parted.{Parted}

@@ -1,6 +1,5 @@
 use Prim.Native.Nat.{_*_, _≤_}
 use native.Mathlib.Nat.{mul-le-mul-right}
-use native.Mathlib.Omega.{arith}
 use borrow.Author.Needs.{needs}
 use Rattle.block.proofs.summing.joined.Statement.{statement}
 use Rattle.block.proofs.summing.joined.Tie as tie

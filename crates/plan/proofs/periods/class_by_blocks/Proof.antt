@@ -1,8 +1,7 @@
-use Prim.Native.Nat.{ℕ, _+_, _-_, _*_, _/_, _≤_, _<_, min}
+use Prim.Native.Nat.{_+_, _-_, _*_, _/_, _≤_, _<_, min}
 use mathlib.Core.Bool.{not}
 use mathlib.Core.Path.{_≡_, sym, ap, _∙_}
 use native.Mathlib.Omega.{arith}
-use lib.ListN.{length}
 use Rattle.below.specs.Below.{anyBelow}
 use Rattle.plan.specs.Fields.{recordAt, doseOf, isMarked}
 use Rattle.plan.specs.Periods.{blockAt, dosesOf, doseIn, hasUnmarked, hasMarked, classOf}
