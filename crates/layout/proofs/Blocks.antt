@@ -17,7 +17,7 @@ use Rattle.block.specs.Sums.{sealed}
 use Rattle.plan.specs.Periods.{blocksOf, blockAt}
 use Rattle.plan.specs.declared.Dose.{Dose}
 use Rattle.layout.specs.declared.Head.{Head}
-use Rattle.layout.specs.declared.Header.{Header}
+use Rattle.plan.specs.declared.Header.{Header}
 use Rattle.layout.specs.Fits.{Every, Every.more}
 use Rattle.layout.specs.Layout.{Written, filled, headBytes, periodStart, continuationStart, doseBytes, dosesHere, periodBlock, blocksFor, bodyOf, laidOut}
 use Rattle.layout.proofs.Every.{every-all, every-map, every-list, all-over}

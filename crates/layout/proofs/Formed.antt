@@ -20,7 +20,7 @@ use Rattle.plan.specs.Fields.{countOf, recordAt}
 use Rattle.plan.specs.Periods.{blocksOf, blockAt}
 use Rattle.plan.specs.declared.Dose.{Dose}
 use Rattle.layout.specs.declared.Head.{Head}
-use Rattle.layout.specs.declared.Header.{Header}
+use Rattle.plan.specs.declared.Header.{Header}
 use Rattle.layout.specs.Fits.{HeadFits, DoseFits, WrittenFits, AllFit, HeadRanged, DoseRanged, WrittenRanged, Ranged}
 use Rattle.layout.specs.Layout.{Written, filled, headBytes, periodStart, continuationStart, doseBytes, dosesHere, periodBlock, bodyOf, laidOut}
 use Rattle.layout.proofs.Back.{block-head, laid-stand}

@@ -7,7 +7,7 @@ use Rattle.day.specs.Days.{isNoSpan}
 use Rattle.form.specs.Form.{fieldOut}
 use Rattle.plan.specs.declared.Dose.{Dose}
 use Rattle.layout.specs.declared.Head.{Head}
-use Rattle.layout.specs.declared.Header.{Header}
+use Rattle.plan.specs.declared.Header.{Header}
 use Rattle.layout.specs.Layout.{Written}
 
 -- each element of a list has P

@@ -9,7 +9,7 @@ use Rattle.block.specs.Bytes.{bytesOf}
 use Rattle.block.specs.Sums.{sealed}
 use Rattle.plan.specs.declared.Dose.{Dose}
 use Rattle.layout.specs.declared.Head.{Head}
-use Rattle.layout.specs.declared.Header.{Header}
+use Rattle.plan.specs.declared.Header.{Header}
 
 -- a period: its header, and its doses in their order
 pub record Written : Type 0 where

@@ -4,10 +4,10 @@ use mathlib.Core.Bool.{cond}
 use mathlib.Core.List.{List, [], _∷_}
 use Rattle.below.specs.Lists.{listBelow, joinBelow}
 use Rattle.plan.specs.declared.Dose.{Dose}
-use Rattle.plan.specs.Fields.{unitOf, intervalOf, firstOf, endOf, planNumberOf, revisionOf, vkaOf}
+use Rattle.plan.specs.Fields.{unitOf, firstOf, endOf, planNumberOf, revisionOf, vkaOf, headerOf}
 use Rattle.plan.specs.Periods.{blocksOf, blockAt, isPeriod, dosesOf, doseIn}
 use Rattle.layout.specs.declared.Head.{Head}
-use Rattle.layout.specs.declared.Header.{Header}
+use Rattle.plan.specs.declared.Header.{Header}
 use Rattle.layout.specs.Layout.{Written}
 
 unfoldable pub headOf : List ℕ → Head
@@ -24,9 +24,7 @@ headOf p =
 
 -- the period at block b, without its doses
 unfoldable pub headerAt : List ℕ → ℕ → Header
-headerAt p b =
-    let r = blockAt p b in
-    record { interval = intervalOf r; first = firstOf r; end = endOf r }
+headerAt p b = headerOf (blockAt p b)
 
 -- its doses
 unfoldable pub dosesAt : List ℕ → ℕ → List Dose

@@ -1,10 +1,11 @@
 // What a plan's bytes are made of: its head and its periods, and how they are read from the bytes. How they are laid out in
 // blocks stands in specs/Layout.antt; that reading is the inverse of laying out, and laying out that of reading, in
 // proofs/.
+use plan::Header;
 use plan::block_of;
 use plan::end_of;
 use plan::first_of;
-use plan::interval_of;
+use plan::header_of;
 use plan::plan_number_of;
 use plan::revision_of;
 use plan::unit_of;
@@ -20,13 +21,6 @@ pub struct Head {
     pub number: u32,
     pub revision: u32,
     pub vka: u8,
-}
-
-// A period without its doses.
-pub struct Header {
-    pub interval: u16,
-    pub first: u32,
-    pub end: u32,
 }
 
 // The head of a plan.
@@ -48,10 +42,5 @@ pub fn head_of(plan: &[u8]) -> Head
 pub fn header_at(plan: &[u8], b: u8) -> Header
     ensures { λ r. ⌜ r ≡ headerAt (now (plan .entry)) b ⌝ }
 {
-    let block = block_of(plan, b as u16);
-    Header {
-        interval: interval_of(block),
-        first: first_of(block),
-        end: end_of(block),
-    }
+    header_of(block_of(plan, b as u16))
 }

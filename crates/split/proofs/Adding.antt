@@ -10,7 +10,7 @@ use Rattle.below.proofs.Lists.{over-append}
 use Rattle.plan.specs.declared.Dose.{Dose}
 use Rattle.plan.specs.Periods.{isPeriod, mixed, classOf}
 use Rattle.layout.specs.Layout.{Written, bodyOf, blocksFor}
-use Rattle.layout.specs.declared.Header.{Header}
+use Rattle.plan.specs.declared.Header.{Header}
 use Rattle.verdict.specs.Groups.{isMember}
 use Rattle.writer.specs.declared.Place.{Place}
 use Rattle.writer.specs.Steps.{periodAdded, periodPlace, doseAdded, dosePlace}

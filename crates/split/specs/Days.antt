@@ -8,7 +8,7 @@ use Rattle.day.specs.Days.{closedDay}
 use Rattle.plan.specs.declared.Dose.{Dose}
 use Rattle.doses.specs.Doses.{applies}
 use Rattle.layout.specs.Layout.{Written}
-use Rattle.layout.specs.declared.Header.{Header}
+use Rattle.plan.specs.declared.Header.{Header}
 
 -- the position of day d, by document 01's words, from a period's header
 unfoldable pub positionIn : Header → ℕ → ℕ

@@ -2,9 +2,9 @@
 // entry b is that of the period at block b.
 use crate::copying::add_kept;
 use block::put_bytes;
-use layout::Header;
 use layout::head_of;
 use layout::header_at;
+use plan::Header;
 use plan::block_of;
 use plan::doses_here;
 use plan::doses_of;

@@ -12,7 +12,7 @@ use Rattle.block.proofs.Put.{put-in}
 use Rattle.plan.specs.declared.Dose.{Dose}
 use Rattle.layout.specs.Layout.{filled, headBytes, periodStart, continuationStart, doseBytes}
 use Rattle.layout.specs.declared.Head.{Head}
-use Rattle.layout.specs.declared.Header.{Header}
+use Rattle.plan.specs.declared.Header.{Header}
 
 -- a head, field by field into a cleared block
 pub head-filled : (h : Head) → put (put (put (put (put (put (put (replicate 512 0) 0 (1 ∷ 0 ∷ [])) 2 (bytesOf 2 (h .unit))) 4 (bytesOf 4 (h .start))) 8 (bytesOf 4 (h .end))) 12 (bytesOf 4 (h .number))) 16 (bytesOf 4 (h .revision))) 20 (h .vka ∷ []) ≡ headBytes h 0

@@ -17,7 +17,7 @@ use Rattle.block.proofs.Put.{length-put}
 use Rattle.plan.specs.declared.Dose.{Dose}
 use Rattle.layout.specs.Layout.{Written, filled, headBytes, periodStart, continuationStart, doseBytes, periodBlock, blocksFor, bodyOf, laidOut}
 use Rattle.layout.specs.declared.Head.{Head}
-use Rattle.layout.specs.declared.Header.{Header}
+use Rattle.plan.specs.declared.Header.{Header}
 use Rattle.writer.specs.declared.Place.{Place}
 use Rattle.writer.specs.Steps.{hasRoom, hasBegun, begun, begunPlace, periodAdded, periodPlace, dosePut, doseAdded, dosePlace, finished, finishedLength}
 use Rattle.writer.specs.Holds.{lying, inLast, lastDoses, Holds}

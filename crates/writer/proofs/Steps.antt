@@ -16,7 +16,7 @@ use Rattle.plan.specs.Periods.{blockAt}
 use Rattle.plan.specs.declared.Dose.{Dose}
 use Rattle.layout.specs.Layout.{filled, headBytes, periodStart, continuationStart, doseBytes}
 use Rattle.layout.specs.declared.Head.{Head}
-use Rattle.layout.specs.declared.Header.{Header}
+use Rattle.plan.specs.declared.Header.{Header}
 use Rattle.writer.specs.declared.Place.{Place}
 use Rattle.writer.specs.Steps.{hasRoom, hasBegun, begun, begunPlace, periodAdded, periodPlace, dosePut, doseAdded, dosePlace, sealedFrom, finished, finishedLength}
 use Rattle.writer.proofs.Room.{room-is}

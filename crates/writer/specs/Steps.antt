@@ -11,7 +11,7 @@ use Rattle.plan.specs.Periods.{blockAt}
 use Rattle.plan.specs.declared.Dose.{Dose}
 use Rattle.layout.specs.Layout.{filled, headBytes, periodStart, continuationStart, doseBytes}
 use Rattle.layout.specs.declared.Head.{Head}
-use Rattle.layout.specs.declared.Header.{Header}
+use Rattle.plan.specs.declared.Header.{Header}
 use Rattle.writer.specs.declared.Place.{Place}
 
 -- behind that many blocks, one more can be counted, and the buffer has its bytes
