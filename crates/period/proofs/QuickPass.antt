@@ -1,9 +1,9 @@
 -- What the quick pass lets through breaks none of rules 7 to 14. Assumes nothing.
 use Prim.Native.Nat.{ℕ, zero, suc, _+_, _-_, _*_, _/_, _≤_, _<_, max}
-use mathlib.Core.Bool.{Bool, true, false, cond, not, _&&_, _||_, Bool·beq}
+use mathlib.Core.Bool.{Bool, true, false, cond, not, _&&_, Bool·beq}
 use mathlib.Core.List.{List}
 use mathlib.Core.Logic.{⊎-elim}
-use mathlib.Core.Path.{_≡_, refl, sym, _∙_}
+use mathlib.Core.Path.{_≡_, sym, _∙_}
 use native.Mathlib.Nat.{eq-or-lt-of-le}
 use native.Mathlib.Omega.{arith}
 use lib.Dec.{eqb, leb, ltb}
@@ -22,7 +22,8 @@ use Rattle.period.specs.Finish.{NotYet}
 use Rattle.period.specs.Period.{limitOf, periodBreaks}
 use Rattle.period.specs.Quick.{quickRank, quickBegun, quickTurned, QuickRoom, Quickly, mayPass, mayAnyDay, mayBoth, mayTooMuch, Apart}
 use Rattle.period.proofs.Counts.{any-count, any-not-count}
-use Rattle.period.proofs.Rank.{others}
+use Rattle.period.specs.Turn.{isClock}
+use Rattle.period.proofs.Rank.{same-is, twice-is, timed-is, others}
 use Rattle.period.proofs.Ruling.{one-on}
 
 -- ranks rise only where day numbers do not fall
@@ -34,28 +35,15 @@ quick-day d e h = omega (arith, h)
 quick-twice : (d e : Dose) → twice d e ≡ true → quickRank d ≡ quickRank e
 unfolding quickRank
 quick-twice d e h =
-    let x = and-both (sameDay d e && eqb (d .kind) (e .kind)) (isTimed d || (eqb (d .kind) 5 && eqb (d .minute) (e .minute))) h in
-    let y = and-both (sameDay d e) (eqb (d .kind) (e .kind)) (x .0) in
-    let day : d .day ≡ e .day = eqb-true _ _ (y .0) in
-    let kind : d .kind ≡ e .kind = eqb-true _ _ (y .1) in
+    let y = twice-is d e h in
     ⊎-elim
     (λ (t : isTimed d ≡ true).
-    let k = and-both (leb 1 (d .kind)) (leb (d .kind) 4) t in
-    let least : 1 ≤ d .kind = leb-true _ _ (k .0) in
-    let most : d .kind ≤ 4 = leb-true _ _ (k .1) in
-    rw (day, kind, ne-eqb (e .kind) 5 (λ (z : e .kind ≡ 5). omega arith), ne-eqb (e .kind) 0 (λ (z : e .kind ≡ 0). omega arith)))
-    (λ t.
-    let k = and-both (eqb (d .kind) 5) (eqb (d .minute) (e .minute)) t in
-    let clock : e .kind ≡ 5 = sym kind ∙ eqb-true _ _ (k .0) in
-    let minute : d .minute ≡ e .minute = eqb-true _ _ (k .1) in
-    rw (day, kind, minute, clock))
-    (or-either (isTimed d) (eqb (d .kind) 5 && eqb (d .minute) (e .minute)) (x .1))
-
-same-bool : (a b : Bool) → Bool·beq a b ≡ true → a ≡ b
-same-bool true true h = refl
-same-bool true false h = sym h
-same-bool false true h = h
-same-bool false false h = refl
+    let k = timed-is d t in
+    rw (y .day, y .kind, ne-eqb (e .kind) 5 (λ (z : e .kind ≡ 5). omega (arith, k, y .kind)), ne-eqb (e .kind) 0 (λ (z : e .kind ≡ 0). omega (arith, k, y .kind))))
+    (λ (t : (isClock d ≡ true) × (d .minute ≡ e .minute)).
+    let clock : e .kind ≡ 5 = sym (y .kind) ∙ eqb-true _ _ (t .0) in
+    rw (y .day, y .kind, t .1, clock))
+    (y .way)
 
 quick-other : (d e : Dose) → otherAmounts d e ≡ true → quickRank d ≡ quickRank e
 unfolding quickRank
@@ -65,7 +53,7 @@ quick-other d e h =
     let y = and-both (isUntimed d) (isUntimed e) (x .0) in
     let kd : d .kind ≡ 0 = eqb-true _ _ (y .0) in
     let ke : e .kind ≡ 0 = eqb-true _ _ (y .1) in
-    rw (o .day, kd, ke, same-bool (isMarked d) (isMarked e) (x .1))
+    rw (o .day, kd, ke, same-is (isMarked d) (isMarked e) (x .1))
 
 -- a test that fails below a holds at most n - a times below n
 count-few : (q : ℕ → Bool) (a n : ℕ) → a ≤ n → ((i : ℕ) → i < a → q i ≡ false) → countBelow n q ≤ n - a

@@ -2,10 +2,10 @@
 use Prim.Native.Nat.{ℕ, _+_, _≤_}
 use mathlib.Core.Bool.{Bool, true, false, cond, not, _&&_, _||_, Bool·beq}
 use mathlib.Core.Logic.{_⊎_, inl, inr, ⊎-elim}
-use mathlib.Core.Path.{_≡_, refl, _∙_}
+use mathlib.Core.Path.{_≡_, refl, sym, _∙_}
 use native.Mathlib.Omega.{arith}
-use lib.Dec.{eqb}
-use borrow.Author.Tests.{eq-eqb, eqb-true, eqb-false, not-true}
+use lib.Dec.{eqb, leb}
+use borrow.Author.Tests.{eq-eqb, eqb-true, eqb-false, leb-true, not-true}
 use Rattle.below.proofs.Tests.{bool-cases, and-both, or-either}
 use Rattle.plan.specs.declared.Dose.{Dose}
 use Rattle.plan.specs.Fields.{isMarked}
@@ -13,30 +13,41 @@ use Rattle.period.specs.Doses.{sameDay, isTimed, isUntimed, twice, other
 use Rattle.period.specs.Turn.{isClock, rankOf, lastAt, sameAmounts, isLike, turned}
 use Rattle.period.specs.declared.turn.Walk.{Walk}
 
+-- two marks are one
+pub same-is : (a b : Bool) → Bool·beq a b ≡ true → a ≡ b
+same-is true true e = refl
+same-is false false e = refl
+same-is true false e = sym e
+same-is false true e = e
+
 -- what rule 10's test says of two doses
 pub record Twice (d e : Dose) : Type 0 where
   pub day : d .day ≡ e .day
   pub kind : d .kind ≡ e .kind
-  pub way : (isTimed d ≡ true) ⊎ (isClock d ≡ true) × (rankOf d ≡ rankOf e)
+  pub way : (isTimed d ≡ true) ⊎ (isClock d ≡ true) × (d .minute ≡ e .minute)
 
 pub twice-is : (d e : Dose) → twice d e ≡ true → Twice d e
-unfolding rankOf
 twice-is d e h =
     let x = and-both (sameDay d e && eqb (d .kind) (e .kind)) (isTimed d || (eqb (d .kind) 5 && eqb (d .minute) (e .minute))) h in
     let y = and-both (sameDay d e) (eqb (d .kind) (e .kind)) (x .0) in
-    let day : d .day ≡ e .day = eqb-true _ _ (y .0) in
     record {
-      day = day;
+      day = eqb-true _ _ (y .0);
       kind = eqb-true _ _ (y .1);
       way =
           ⊎-elim
           (λ (t : isTimed d ≡ true). inl t)
           (λ t.
           let k = and-both (eqb (d .kind) 5) (eqb (d .minute) (e .minute)) t in
-          let minute : d .minute ≡ e .minute = eqb-true _ _ (k .1) in
-          inr (k .0, rw (day, minute)))
+          inr (k .0, eqb-true _ _ (k .1)))
           (or-either (isTimed d) (eqb (d .kind) 5 && eqb (d .minute) (e .minute)) (x .1));
     }
+
+pub timed-is : (d : Dose) → isTimed d ≡ true → (1 ≤ d .kind) × (d .kind ≤ 4)
+timed-is d t = let k = and-both (leb 1 (d .kind)) (leb (d .kind) 4) t in (leb-true _ _ (k .0), leb-true _ _ (k .1))
+
+pub same-rank : (d e : Dose) → d .day ≡ e .day → d .minute ≡ e .minute → rankOf d ≡ rankOf e
+unfolding rankOf
+same-rank d e day minute = rw (day, minute)
 
 -- by the kinds 1 to 4
 pub by-kind : (P : ℕ → Type 0) → P 1 → P 2 → P 3 → P 4 → (k : ℕ) → 1 ≤ k → k ≤ 4 → P k

@@ -1,24 +1,26 @@
 -- Rule 10 by the tag of the last dose at each time. Assumes nothing.
 use Prim.Native.Nat.{ℕ, _+_, _-_, _*_, _/_, _%_, _≤_, _<_}
-use mathlib.Core.Bool.{Bool, true, false, cond, _&&_, _||_}
+use mathlib.Core.Bool.{Bool, true, false, cond}
 use mathlib.Core.List.{List}
 use mathlib.Core.Logic.{⊎-elim}
 use mathlib.Core.Path.{_≡_, refl, sym, _∙_}
 use native.Mathlib.Omega.{arith}
-use lib.Dec.{eqb, leb, ltb}
+use lib.Dec.{eqb, ltb}
 use lib.ListN.{getD, set, replicate, take, drop, length-replicate, length-set, length-take, List·getD-eq-default}
 use lib.Seq.{getD-set-same, getD-set-other, getD-take, getD-drop}
 use borrow.Author.Count.{below-more}
-use borrow.Author.Tests.{eq-eqb, eqb-true, eqb-false, ne-eqb, ltb-true, lt-ltb, leb-true}
+use borrow.Author.Tests.{eq-eqb, eqb-true, eqb-false, ne-eqb, ltb-true, lt-ltb}
 use Rattle.below.proofs.Search.{NoneBelow, any-hit, any-none}
-use Rattle.below.proofs.Tests.{bool-cases, true-not-false, not-true-false, and-both, or-either, le-or-lt}
+use Rattle.below.proofs.Tests.{bool-cases, true-not-false, not-true-false, le-or-lt}
 use Rattle.block.proofs.Numbers.{AreBytes, number-part}
 use Rattle.block.specs.Bytes.{longAt}
 use Rattle.plan.proofs.Opened.{day-is, kind-is, mark-is, minute-is}
 use Rattle.plan.specs.declared.Dose.{Dose}
 use Rattle.plan.specs.Fields.{recordAt, doseOf}
 use Rattle.plan.specs.Periods.{blockAt, doseIn}
-use Rattle.period.specs.Doses.{sameDay, isTimed, twice}
+use Rattle.period.specs.Doses.{isTimed, twice}
+use Rattle.period.specs.Turn.{isClock}
+use Rattle.period.proofs.Rank.{twice-is, timed-is}
 use Rattle.period.specs.Twice.{twiceAt, Rising, timeOf, slotOf, Seen}
 
 -- a part of a list of bytes
@@ -79,24 +81,17 @@ record Clash (d e : Dose) : Type 0 where
 clash : (d e : Dose) → twice d e ≡ true → Clash d e
 unfolding slotOf
 clash d e h =
-    let x = and-both (sameDay d e && eqb (d .kind) (e .kind)) (isTimed d || (eqb (d .kind) 5 && eqb (d .minute) (e .minute))) h in
-    let y = and-both (sameDay d e) (eqb (d .kind) (e .kind)) (x .0) in
-    let day : d .day ≡ e .day = eqb-true _ _ (y .0) in
-    let kind : d .kind ≡ e .kind = eqb-true _ _ (y .1) in
+    let y = twice-is d e h in
     ⊎-elim
     (λ (t : isTimed d ≡ true).
-    let k = and-both (leb 1 (d .kind)) (leb (d .kind) 4) t in
-    let least : 1 ≤ d .kind = leb-true _ _ (k .0) in
-    let most : d .kind ≤ 4 = leb-true _ _ (k .1) in
-    let n5 : eqb (e .kind) 5 ≡ false = ne-eqb (e .kind) 5 (λ (z : e .kind ≡ 5). omega arith) in
-    let l5 : ltb (e .kind) 5 ≡ true = lt-ltb (e .kind) 5 (omega arith) in
-    record { day = day; place = rw (kind, n5, l5); some = rw (n5, l5) (omega arith) })
-    (λ t.
-    let k = and-both (eqb (d .kind) 5) (eqb (d .minute) (e .minute)) t in
-    let minute : d .minute ≡ e .minute = eqb-true _ _ (k .1) in
-    let is5 : eqb (e .kind) 5 ≡ true = eq-eqb (e .kind) 5 (sym kind ∙ eqb-true _ _ (k .0)) in
-    record { day = day; place = rw (kind, minute); some = rw is5 (omega arith) })
-    (or-either (isTimed d) (eqb (d .kind) 5 && eqb (d .minute) (e .minute)) (x .1))
+    let k = timed-is d t in
+    let n5 : eqb (e .kind) 5 ≡ false = ne-eqb (e .kind) 5 (λ (z : e .kind ≡ 5). omega (arith, k, y .kind)) in
+    let l5 : ltb (e .kind) 5 ≡ true = lt-ltb (e .kind) 5 (omega (arith, k, y .kind)) in
+    record { day = y .day; place = rw (y .kind, n5, l5); some = rw (n5, l5) (omega (arith, k, y .kind)) })
+    (λ (t : (isClock d ≡ true) × (d .minute ≡ e .minute)).
+    let is5 : eqb (e .kind) 5 ≡ true = eq-eqb (e .kind) 5 (sym (y .kind) ∙ eqb-true _ _ (t .0)) in
+    record { day = y .day; place = rw (y .kind, t .1); some = rw is5 (omega arith) })
+    (y .way)
 
 module _ (D : ℕ → Dose) where
   pub seen-none : Seen D 0 0 1 (replicate 1445 0)

@@ -22,18 +22,12 @@ use Rattle.period.specs.Turn.{isClock, rankOf, lastAt, fromOf, isCrowded
 use Rattle.period.proofs.Choice.{cond-le, larger}
 use Rattle.period.proofs.Counts.{count-from}
 use Rattle.period.proofs.Lowest.{testOf, lowest-is, same-tests, no-test}
-use Rattle.period.proofs.Rank.{twice-is, last-more, Others, others, other-of, like-like, amounts-on}
+use Rattle.period.proofs.Rank.{same-is, twice-is, same-rank, last-more, Others, others, other-of, like-like, amounts-on}
 
 -- two marks are one
 same-same : (m : Bool) → Bool·beq m m ≡ true
 same-same true = refl
 same-same false = refl
-
-same-is : (a b : Bool) → Bool·beq a b ≡ true → a ≡ b
-same-is true true e = refl
-same-is false false e = refl
-same-is true false e = sym e
-same-is false true e = e
 
 module _ (D : ℕ → Dose) where
   -- dose j breaks rule k with those ahead of it; rules 8, 10 and 12, and the second half of 7, are asked at the end
@@ -357,10 +351,10 @@ module _ (D : ℕ → Dose) where
         let high : i < lastAt s (D j .kind) = rw (y .kind) at (w .kinds i m k) in
         let none : lastAt s (D j .kind) ≤ from up t = ltb-false _ _ b in
         omega (arith, low, high, none))
-        (λ (k : (isClock (D i) ≡ true) × (rankOf (D i) ≡ rankOf (D j))).
+        (λ (k : (isClock (D i) ≡ true) × (D i .minute ≡ D j .minute)).
         let clock : isClock (D j) ≡ true = rw (y .kind) at (k .0) in
         let high : s .top < rankOf (D j) = leb-false _ _ (rw clock at a) in
-        omega (arith, k .1, w .tops i m (k .0)))
+        omega (arith, same-rank (D i) (D j) (y .day) (k .1), w .tops i m (k .0)))
         (y .way)))
 
     -- the largest rank with dose j

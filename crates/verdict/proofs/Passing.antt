@@ -21,7 +21,7 @@ use Rattle.block.specs.Bytes.{byteAt}
 use Rattle.plan.specs.Periods.{blocksOf, blockAt, isPeriod, classOf}
 use Rattle.refusal.specs.Refusals.{ruleAt}
 use Rattle.verdict.specs.Coverage.{bare, shares, holes}
-use Rattle.verdict.specs.Judging.{Judged, Unbroken, classAt, HasClasses}
+use Rattle.verdict.specs.Judging.{Judged, Unbroken, classAt, classesBy, HasClasses}
 use Rattle.verdict.specs.Ready.{Classed, Ready}
 use Rattle.verdict.specs.Verdict.{planLimit, breaks, verdictOf}
 use Rattle.verdict.specs.declared.Answer.the-variants.{Accepted, Broken}
@@ -170,6 +170,7 @@ module _ {p : List ℕ} (f : Formed planLimit p) where
 
 -- whatever the answer is
 pub has-classes : (a : Answer) (p cs : List ℕ) → cs ≡ listBelow 32 (classAt p) → HasClasses a p cs
+unfolding classesBy
 has-classes (Accepted n) p cs e = e
 has-classes (Broken r) p cs e = refl
 

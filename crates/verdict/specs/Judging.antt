@@ -40,7 +40,7 @@ classesBy (Broken r) p = replicate 32 0
 
 -- cs has the classes, where the plan is accepted
 abbrev pub HasClasses : Answer → List ℕ → List ℕ → Type 0
-HasClasses (Accepted n) p cs = cs ≡ listBelow 32 (classAt p)
+HasClasses (Accepted n) p cs = cs ≡ classesBy (Accepted n) p
 HasClasses (Broken r) p cs = _≡_ {A = ℕ} 0 0
 
 -- rule 1 and no rule below k is broken: what the test of rule k counts on
