@@ -18,7 +18,7 @@ use Rattle.verdict.specs.Coverage.{hasDays, mayShare, sharesWith, shares
 use Rattle.verdict.specs.Groups.{isMember}
 use Rattle.verdict.specs.Ready.{Classed}
 use Rattle.verdict.specs.Walks.{spanOf, freeOn}
-use Rattle.verdict.specs.declared.Group.the-variants.{FixedOrEmpty, Need}
+use Rattle.verdict.specs.declared.Group.the-variants.{All, FixedOrEmpty, Need}
 use Rattle.verdict.specs.declared.Group.{Group}
 use Rattle.verdict.specs.declared.sharing.Free.{Free}
 use Rattle.verdict.proofs.Members.{by-test, under, member-in, member-none, member-out, class-small}
@@ -85,25 +85,51 @@ module _ (p : List ℕ) {n a b : ℕ} (l : a < b) (q : b < n) (i : isPeriod p a 
       let x = and-both (inGroup g (classOf p a)) _ t in
       omega (arith, apart b q (member-in g p b j (x .1)) a l (member-in g p a i (x .0)))
 
+-- what breaks rule 16 at block b: a period ahead of it
+record Shared (p : List ℕ) (b : ℕ) : Type 0 where
+  a : ℕ
+  ahead : a < b
+  this : isPeriod p b ≡ true
+  that : isPeriod p a ≡ true
+  days : firstOf (blockAt p b) ≤ lastOf (blockAt p a)
+  classes : mayShare (classOf p a) (classOf p b) ≡ false
+
+shared : (p : List ℕ) (b : ℕ) → shares p b ≡ true → Shared p b
+unfolding shares sharesWith
+shared p b e =
+    let x = and-both (isPeriod p b) (anyBelow b (sharesWith p b)) e in
+    let k = any-some (sharesWith p b) b (x .1) in
+    let y = and-both (isPeriod p (k .0) && hasDays p (firstOf (blockAt p b)) (lastOf (blockAt p b)) (k .0)) _ (k .2) in
+    let z = and-both (isPeriod p (k .0)) _ (y .0) in
+    record {
+      a = k .0;
+      ahead = k .1;
+      this = x .0;
+      that = z .0;
+      days = leb-true _ _ (and-both (leb (firstOf (blockAt p (k .0))) (lastOf (blockAt p b))) _ (z .1) .1);
+      classes = not-true _ (y .1);
+    }
+
 -- where both walks came to their end, no period breaks rule 16
 module _ (p : List ℕ) {n : ℕ} {s t : Free} (f : Walks FixedOrEmpty p n s) (d : Walks Need p n t) where
   pub walks-end : not (s .lost || t .lost) ≡ true → (b : ℕ) → b < n → shares p b ≡ false
-  unfolding shares sharesWith
   walks-end h b l =
       let o = or-neither (s .lost) _ (not-true _ h) in
       not-true-false _
       (λ e.
-      let x = and-both (isPeriod p b) (anyBelow b (sharesWith p b)) e in
-      let k = any-some (sharesWith p b) b (x .1) in
-      let a = k .0 in
-      let y = and-both (isPeriod p a && hasDays p (firstOf (blockAt p b)) (lastOf (blockAt p b)) a) _ (k .2) in
-      let z = and-both (isPeriod p a) _ (y .0) in
-      let days = leb-true _ _ (and-both (leb (firstOf (blockAt p a)) (lastOf (blockAt p b))) _ (z .1) .1) in
-      let one = one-group (classOf p a) (classOf p b) (class-small p a) (class-small p b) in
+      let x = shared p b e in
+      let one = one-group (classOf p (x .a)) (classOf p b) (class-small p (x .a)) (class-small p b) in
       ⊎-elim
-      (clash p (k .1) l (z .0) (x .0) FixedOrEmpty (f .found (o .0) .apart) days)
-      (clash p (k .1) l (z .0) (x .0) Need (d .found (o .1) .apart) days)
-      (or-either _ _ (rw (not-true (mayShare (classOf p a) (classOf p b)) (y .1)) at one)))
+      (clash p (x .ahead) l (x .that) (x .this) FixedOrEmpty (f .found (o .0) .apart) (x .days))
+      (clash p (x .ahead) l (x .that) (x .this) Need (d .found (o .1) .apart) (x .days))
+      (or-either _ _ (rw (x .classes) at one)))
+
+-- .. nor where one over all periods did
+pub walks-all : (p : List ℕ) {n : ℕ} {s : Free} → Walks All p n s → s .lost ≡ false → (b : ℕ) → b < n → shares p b ≡ false
+unfolding together
+walks-all p f h b l =
+    not-true-false _
+    (λ e. let x = shared p b e in clash p (x .ahead) l (x .that) (x .this) All (f .found h .apart) (x .days) refl)
 
 -- the test of two periods by their entries
 module _ {p cs : List ℕ} (k : Classed p cs) {a b : ℕ} (n : b < blocksOf p) (j : isPeriod p b ≡ true) (l : a < b) where

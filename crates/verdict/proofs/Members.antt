@@ -47,6 +47,10 @@ module _ (g : Group) (p : List ℕ) (b : ℕ) where
   unfolding isMember
   member-period m = and-both (isPeriod p b) _ m .0
 
+  pub member-group : isMember g p b ≡ true → inGroup g (classOf p b) ≡ true
+  unfolding isMember
+  member-group m = and-both (isPeriod p b) _ m .1
+
   pub member-in : isPeriod p b ≡ true → inGroup g (classOf p b) ≡ true → isMember g p b ≡ true
   unfolding isMember
   member-in i j = rw (i, j)

@@ -1,9 +1,9 @@
 -- One walk over the periods in block order shows that a plan keeps rule 16, and one that it keeps rule 17: what a turn of each
 -- makes of its state s. No rule is stated by these.
 use Prim.Native.Nat.{ℕ, _+_, max}
-use mathlib.Core.Bool.{cond, not, _&&_, _||_}
+use mathlib.Core.Bool.{Bool, cond, not, _&&_, _||_}
 use mathlib.Core.List.{List}
-use lib.Dec.{leb, ltb}
+use lib.Dec.{eqb, leb, ltb}
 use Rattle.plan.specs.Fields.{firstOf, lastOf}
 use Rattle.plan.specs.Periods.{blockAt, classOf}
 use Rattle.verdict.specs.Coverage.{inGroup}
@@ -33,3 +33,10 @@ reachOn g q s =
     (cond (s .began && not spans) s
     (record { from = q .first; to = q .end; began = s .began || spans; lost = s .lost || s .began })))
     s
+
+-- the class of the periods with doses so far, 0 where there is none, and of one more: they are alike
+abbrev pub isLike : ℕ → ℕ → Bool
+isLike class c = eqb c 0 || eqb class 0 || eqb c class
+
+unfoldable pub classWith : ℕ → ℕ → ℕ
+classWith class c = cond (eqb c 0) class c
