@@ -11,6 +11,6 @@ use Rattle.block.specs.Sums.{sumsRight}
 unfoldable pub zeroIn : List ℕ → ℕ → ℕ → Bool
 zeroIn s a n = allBelow n (λ k. eqb (byteAt s (a + k)) 0)
 
--- a block of n records of 24 bytes behind its first 24 bytes: at most 20 of them, then zeros, and then right sums
+-- "from 24, doses of 24 bytes each": a block with n of them, at most 20, then zeros, and then right sums
 unfoldable pub endsRight : List ℕ → ℕ → Bool
 endsRight b n = leb n 20 && zeroIn b (24 + n * 24) (480 - n * 24) && sumsRight b

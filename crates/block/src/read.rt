@@ -145,6 +145,7 @@ fn is_zero_64(s: &[u8], at: usize) -> bool
         & (long_in(s, at + 56) == 0)
 }
 
+// Are 128?
 fn is_zero_128(s: &[u8], at: usize) -> bool
     requires { ⌜ at + 128 ≤ length (now s) ⌝ }
     ensures { λ r. ⌜ r ≡ zeroIn (now (s .entry)) at 128 ⌝ }

@@ -37,7 +37,7 @@ fn joined(s: Sums, t: u32, rest: u8) -> Sums
 
 // The sums of words 0 to 125, of which those behind n records are zero. Six words stand side by side, as many as a record has: lane
 // k has two running sums of its own over words k, 6 + k, 12 + k, .., and at the end the lanes are joined in order. Lanes do not wait
-// for each other, so that the compiled turn is wide; in a function of its own it is not.
+// for each other, so that the compiled turn is wide.
 fn sums_of(b: &[u8], n: u8) -> Sums
     requires { ⌜ (504 ≤ length (now b)) × (n ≤ 20) × (zeroIn (now b) (24 + n * 24) (480 - n * 24) ≡ true) ⌝ }
     ensures { λ r. ⌜ r ≡ sumsOf (now (b .entry)) ⌝ }

@@ -26,6 +26,7 @@ periodFront r = daysOut r || not (eqb (wordAt r 12) 0) || not (eqb (longAt r 16)
 abbrev pub continuationFront : List ℕ → Bool
 continuationFront r = eqb (countOf r) 0 || notZero r 2 24 || recordsOut r
 
+-- by the block's kind
 unfoldable pub frontOut : List ℕ → Bool
 frontOut r = cond (eqb (kindOf r) 1) (headFront r) (cond (eqb (kindOf r) 2) (periodFront r) (continuationFront r))
 

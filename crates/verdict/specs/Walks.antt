@@ -34,9 +34,11 @@ reachOn g q s =
     (record { from = q .first; to = q .end; began = s .began || spans; lost = s .lost || s .began })))
     s
 
--- the class of the periods with doses so far, 0 where there is none, and of one more: they are alike
+-- a period of class c is like those so far, whose doses are all of this class, 0 where none has any: one of the two is 0, or they
+-- are one
 abbrev pub isLike : ℕ → ℕ → Bool
 isLike class c = eqb c 0 || eqb class 0 || eqb c class
 
+-- the class of them all
 unfoldable pub classWith : ℕ → ℕ → ℕ
 classWith class c = cond (eqb c 0) class c

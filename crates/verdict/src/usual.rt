@@ -1,4 +1,4 @@
-// Rules 15 to 17 of the usual plan, in one walk over its periods.
+// Rules 15 to 17 of usual plans: two quick ways, each one walk over the periods.
 use crate::Group;
 use crate::coverage::span_of;
 use crate::holes::NOWHERE;
