@@ -32,3 +32,8 @@ joinOver f (x ∷ xs) = f x ++ joinOver f xs
 unfoldable pub sumOver : {A : Type 0} → (A → ℕ) → List A → ℕ
 sumOver f [] = 0
 sumOver f (x ∷ xs) = f x + sumOver f xs
+
+-- each element of a list has P
+pub data Every {A : Type 0} (P : A → Type 0) : List A → Type 0 where
+  none : Every P []
+  more : {x : A} {xs : List A} → P x → Every P xs → Every P (x ∷ xs)

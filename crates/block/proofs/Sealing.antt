@@ -37,7 +37,7 @@ unfolding sumsOf
 sums-same b c h = summed-same _ b c 0 126 (λ j l. h j (omega arith))
 
 -- both sums drop what passes 32 bits
-summed-fits : (s : Sums) (b : List ℕ) (i n : ℕ) → s .first < 2 ^ 32 → s .second < 2 ^ 32 → (summed s b i n .first < 2 ^ 32) × (summed s b i n .second < 2 ^ 32)
+pub summed-fits : (s : Sums) (b : List ℕ) (i n : ℕ) → s .first < 2 ^ 32 → s .second < 2 ^ 32 → (summed s b i n .first < 2 ^ 32) × (summed s b i n .second < 2 ^ 32)
 unfolding summed grown
 summed-fits s b i zero f g = (f, g)
 summed-fits s b i (suc n) f g = summed-fits (grown s (wordAt b i)) b (i + 4) n (omega arith) (omega arith)

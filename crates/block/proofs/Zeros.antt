@@ -13,7 +13,7 @@ use borrow.Author.Tests.{eq-eqb, ne-eqb, eqb-true}
 use Rattle.below.proofs.Search.{all-at, all-every}
 use Rattle.below.proofs.Tests.{bool-iff, and-both, both-and, le-or-lt, not-true-false, true-not-false}
 use Rattle.block.specs.Bytes.{byteAt, numberAt, isZero}
-use Rattle.block.specs.Zeros.{zeroIn}
+use Rattle.block.specs.code.Zeros.{zeroIn}
 use Rattle.block.proofs.Zero.{zero-at, at-zero}
 
 -- the n bytes from a on are zero, one by one

@@ -1,5 +1,4 @@
 -- Document 01, "The block": numbers in bytes, runs of bytes, and a block's two sums.
 pub mod Bytes
-pub mod Zeros
 pub mod Sums
-pub mod Lanes
+pub mod code

@@ -9,7 +9,6 @@ pub use read::is_zero;
 pub use read::long_at;
 pub use read::longs_at;
 pub use read::word_at;
-pub use summing::ends_right;
 pub use summing::seal;
 pub use summing::sums_right;
 pub use write::clear;

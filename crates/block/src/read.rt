@@ -4,7 +4,7 @@ ghost use mathlib.Core.Path.{_≡_};
 ghost use Prim.Native.Nat.{_+_, _-_, _*_, _≤_, _<_, _^_};
 ghost use lib.ListN.{length};
 ghost use Rattle.block.specs.Bytes.{byteAt, numberAt, halfAt, wordAt, longAt, isZero};
-ghost use Rattle.block.specs.Zeros.{zeroIn};
+ghost use Rattle.block.specs.code.Zeros.{zeroIn};
 
 // A byte, wider: its bound in the contract is what spares the readers below a proof.
 fn wide(x: u8) -> u16

@@ -12,7 +12,7 @@ use Rattle.day.specs.declared.Date.{Date}
 use Rattle.day.specs.declared.Named.the-variants.{On, NoDate}
 use Rattle.day.specs.Days.{namedBy}
 use Rattle.day.specs.Calendar.{isLeap, months, before, yearLength, yearStart, isDate, numberOf}
-use Rattle.day.specs.Inside.{Inside}
+use Rattle.day.specs.code.Inside.{Inside}
 use Rattle.day.proofs.Months.{before-more, before-month}
 
 pub start-zero : yearStart 0 ≡ 0

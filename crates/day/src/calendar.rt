@@ -10,7 +10,7 @@ ghost use mathlib.Core.Path.{_≡_};
 ghost use Prim.Native.Nat.{_≤_, _<_};
 ghost use Rattle.day.specs.Calendar.{yearLength, yearStart};
 ghost use Rattle.day.specs.Days.{namedBy, Shows};
-ghost use Rattle.day.specs.Inside.{Inside};
+ghost use Rattle.day.specs.code.Inside.{Inside};
 
 // The day on which the year 2000 + k begins.
 fn year_start(k: u32) -> u32

@@ -7,7 +7,7 @@ use mathlib.Core.Path.{_≡_, _∙_}
 use native.Mathlib.Omega.{arith}
 use Rattle.below.proofs.Tests.{bool-cases, and-both}
 use Rattle.below.proofs.Total.{sum-le}
-use Rattle.plan.specs.Fields.{isMarked, upperOf}
+use Rattle.plan.specs.Fields.{isMarked, upperOf, headerOf}
 use Rattle.plan.specs.Periods.{blocksOf, blockAt, isPeriod, dosesOf, doseIn}
 use Rattle.plan.specs.declared.Dose.{Dose}
 use Rattle.doses.specs.Doses.{covers, positionOf, applies, dosesOfPeriod, dosesOn, added, addedAll, daySums, share, lowOf, exactSums}
@@ -68,11 +68,11 @@ module _ (p : List ℕ) (d : ℕ) (ok : InRange p) (g : Dose → ℕ) (small : (
   period-small : (b : ℕ) → b < blocksOf p → isPeriod p b ≡ true → sumOver g (dosesOfPeriod p d b) ≤ 12799999998720
   unfolding dosesOfPeriod
   period-small b l e =
-      rw (sum-pick g (dosesOf p b) (λ j. applies (positionOf (blockAt p b) d) (doseIn p b j)) (doseIn p b))
+      rw (sum-pick g (dosesOf p b) (λ j. applies (positionOf (headerOf (blockAt p b)) d) (doseIn p b j)) (doseIn p b))
       (omega (
         arith,
         ok .few b l e,
-        sum-le (λ j. cond (applies (positionOf (blockAt p b) d) (doseIn p b j)) (g (doseIn p b j)) 0) 9999999999 (dosesOf p b) (λ j h. at-most (applies (positionOf (blockAt p b) d) (doseIn p b j)) (g (doseIn p b j)) (small (doseIn p b j) (ok .low b j l e h) (ok .upper b j l e h))),
+        sum-le (λ j. cond (applies (positionOf (headerOf (blockAt p b)) d) (doseIn p b j)) (g (doseIn p b j)) 0) 9999999999 (dosesOf p b) (λ j h. at-most (applies (positionOf (headerOf (blockAt p b)) d) (doseIn p b j)) (g (doseIn p b j)) (small (doseIn p b j) (ok .low b j l e h) (ok .upper b j l e h))),
       ))
     where
       at-most : (t : Bool) (n : ℕ) → n ≤ 9999999999 → cond t n 0 ≤ 9999999999

@@ -5,7 +5,8 @@ use mathlib.Core.List.{List, [], _∷_}
 use lib.Dec.{eqb, leb}
 use lib.ListN.{getD, set}
 use Rattle.plan.specs.declared.Dose.{Dose}
-use Rattle.plan.specs.Fields.{intervalOf, firstOf, lastOf, isMarked, upperOf}
+use Rattle.plan.specs.declared.Header.{Header}
+use Rattle.plan.specs.Fields.{firstOf, lastOf, isMarked, upperOf, headerOf}
 use Rattle.plan.specs.Periods.{blocksOf, blockAt, isPeriod, dosesOf, doseIn}
 use Rattle.below.specs.Lists.{pickBelow, joinBelow, sumOver}
 
@@ -14,9 +15,8 @@ abbrev pub covers : List ℕ → ℕ → ℕ → Bool
 covers p d b = isPeriod p b && (leb (firstOf (blockAt p b)) d && leb d (lastOf (blockAt p b)))
 
 -- "On day d of a period with first day f and interval k > 0, the position is ((d - f) mod k) + 1; not iterated, d - f + 1."
-unfoldable pub positionOf : List ℕ → ℕ → ℕ
-positionOf r d =
-    cond (eqb (intervalOf r) 0) (d - firstOf r + 1) ((d - firstOf r) % intervalOf r + 1)
+unfoldable pub positionOf : Header → ℕ → ℕ
+positionOf q d = cond (eqb (q .interval) 0) (d - q .first + 1) ((d - q .first) % q .interval + 1)
 
 -- "Doses with that day number apply; day number 0 counts at position 1."
 abbrev pub applies : ℕ → Dose → Bool
@@ -25,7 +25,7 @@ applies position x = eqb (x .day) position || (eqb (x .day) 0 && eqb position 1)
 -- the doses of the period at block b on day d, in their order
 unfoldable pub dosesOfPeriod : List ℕ → ℕ → ℕ → List Dose
 dosesOfPeriod p d b =
-    pickBelow (dosesOf p b) (λ j. applies (positionOf (blockAt p b) d) (doseIn p b j)) (doseIn p b)
+    pickBelow (dosesOf p b) (λ j. applies (positionOf (headerOf (blockAt p b)) d) (doseIn p b j)) (doseIn p b)
 
 -- the doses of the plan on day d, of all its periods; no storage has more than 64 blocks
 unfoldable pub dosesOn : List ℕ → ℕ → List Dose

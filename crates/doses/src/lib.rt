@@ -11,6 +11,7 @@ use plan::last_of;
 use plan::upper_of;
 ghost use mathlib.Core.Path.{_≡_};
 ghost use Prim.Native.Nat.{_-_, _<_, min};
+ghost use Rattle.plan.specs.Fields.{headerOf};
 ghost use Rattle.doses.specs.Doses.{covers, positionOf, applies, dosesOfPeriod, grown, added, addedAll, daySums};
 
 // Has the period at block b this day?
@@ -41,7 +42,7 @@ fn days_since(first: u32, day: u32) -> u32
 
 // The position of a day in the period whose first block is r.
 pub fn position_of(r: &[u8], day: u32) -> u64
-    ensures { λ n. ⌜ n ≡ positionOf (now (r .entry)) day ⌝ }
+    ensures { λ n. ⌜ n ≡ positionOf (headerOf (now (r .entry))) day ⌝ }
 {
     let since = wide(days_since(first_of(r), day));
     let interval = interval_of(r) as u64;

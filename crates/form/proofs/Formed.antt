@@ -19,7 +19,7 @@ use Rattle.refusal.proofs.Order.{Passed, passed-lowest, rule-none}
 use Rattle.refusal.specs.Order.{lowestBlock}
 use Rattle.refusal.specs.declared.Refusal.{Refusal}
 use Rattle.form.specs.Form.{badLength, sumsWrong, misplaced, daysOut, dosesOut, periodOut, blockOut, formBreaks, formRule, formOf}
-use Rattle.form.specs.Front.{brokenAt}
+use Rattle.form.specs.code.Front.{brokenAt}
 use Rattle.form.specs.declared.Form.the-variants.{Right, Broken}
 use Rattle.form.proofs.Laws.{right-is}
 

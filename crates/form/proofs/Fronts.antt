@@ -1,5 +1,5 @@
 -- Rule 4 as the code asks it: some zero bytes of a block's front as numbers, and those behind its records last. Assumes nothing.
-use Prim.Native.Nat.{ℕ, _+_, _-_, _*_, _≤_}
+use Prim.Native.Nat.{ℕ, _+_, _*_, _≤_}
 use mathlib.Core.Bool.{Bool, true, false, not, _&&_, _||_}
 use mathlib.Core.List.{List}
 use mathlib.Core.Logic.{⊎-elim}
@@ -7,19 +7,19 @@ use mathlib.Core.Path.{_≡_, refl, sym}
 use native.Mathlib.Omega.{arith}
 use lib.Dec.{eqb, ltb}
 use lib.ListN.{length}
-use borrow.Author.Tests.{ltb-false, le-leb}
-use Rattle.below.proofs.Tests.{bool-cases, or-neither, or-assoc}
+use borrow.Author.Tests.{ltb-false}
+use Rattle.below.proofs.Tests.{bool-cases, or-true, or-neither, or-assoc}
 use Rattle.block.specs.Bytes.{byteAt, numberAt, wordAt, longAt}
 use Rattle.block.specs.Sums.{sumsRight}
-use Rattle.block.specs.Zeros.{zeroIn, endsRight}
+use Rattle.block.specs.code.Zeros.{zeroIn}
 use Rattle.block.proofs.Zeros.{zero-split, number-zero, part-zero}
 use Rattle.plan.specs.Fields.{kindOf, countOf}
 use Rattle.form.specs.Form.{daysOut, notZero, dosesOut, headOut, periodOut, continuationOut, blockOut}
-use Rattle.form.specs.Front.{recordsOut, headFront, periodFront, continuationFront, frontOut, recordsOf}
+use Rattle.form.specs.code.Front.{recordsOut, headFront, periodFront, continuationFront, frontOut, recordsOf}
 use Rattle.form.proofs.Zeroed.{past}
 
 -- the bytes behind n records, up to the sums
-abbrev behindOut : List ℕ → ℕ → Bool
+abbrev pub behindOut : List ℕ → ℕ → Bool
 behindOut r n = notZero r (24 + n * 24) 504
 
 module _ (r : List ℕ) (long : length r ≡ 512) where
@@ -79,7 +79,7 @@ module _ (r : List ℕ) (long : length r ≡ 512) where
   unfolding recordsOut
   few a e = ltb-false _ _ (or-neither (ltb 20 (countOf r)) _ (or-neither a (recordsOut r) e .1) .0)
 
-  few-records : frontOut r ≡ false → recordsOf r ≤ 20
+  pub few-records : frontOut r ≡ false → recordsOf r ≤ 20
   unfolding frontOut recordsOf
   few-records e =
       ⊎-elim
@@ -92,19 +92,12 @@ module _ (r : List ℕ) (long : length r ≡ 512) where
       (bool-cases (eqb (kindOf r) 2))))
       (bool-cases (eqb (kindOf r) 1))
 
-  not-and : (a b : Bool) → not (a && b) ≡ not a || not b
-  not-and true b = refl
-  not-and false b = refl
-
-  -- .. and the zeros and sums behind them decide
-  pub ends-decide : frontOut r ≡ false → not (endsRight r (recordsOf r)) ≡ (blockOut r || not (sumsRight r))
-  unfolding endsRight
-  ends-decide e =
-      let n = recordsOf r in
-      let h : n ≤ 20 = few-records e in
-      let at : 504 - (24 + n * 24) ≡ 480 - n * 24 = omega arith in
-      rw (block-front, e, le-leb n 20 h, part-zero r (24 + n * 24) (504 - (24 + n * 24)) (omega (arith, h)), at)
-      (not-and (zeroIn r (24 + n * 24) (480 - n * 24)) (sumsRight r))
-
   pub front-decides : frontOut r ≡ true → (blockOut r || not (sumsRight r)) ≡ true
   front-decides e = rw (block-front, e)
+
+  pub behind-decides : behindOut r (recordsOf r) ≡ true → (blockOut r || not (sumsRight r)) ≡ true
+  behind-decides e = rw (block-front, e, or-true)
+
+  -- .. and where both are right, the sums decide
+  pub sums-decide : frontOut r ≡ false → behindOut r (recordsOf r) ≡ false → not (sumsRight r) ≡ (blockOut r || not (sumsRight r))
+  sums-decide e f = rw (block-front, e, f)

@@ -16,7 +16,7 @@ use Rattle.refusal.proofs.Order.{Passed, rule-is, rule-none}
 use Rattle.refusal.specs.Order.{lowestBlock}
 use Rattle.refusal.specs.Refusals.{ruleAt}
 use Rattle.form.specs.Form.{badLength, formBreaks, formRule, formOf}
-use Rattle.form.specs.Whole.{Whole}
+use Rattle.form.specs.code.Whole.{Whole}
 use Rattle.form.specs.declared.Form.the-variants.{Right, Broken}
 
 -- rule 1

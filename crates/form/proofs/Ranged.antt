@@ -15,7 +15,7 @@ use Rattle.plan.specs.Fields.{kindOf, countOf, recordAt, doseOf}
 use Rattle.plan.specs.Periods.{blocksOf, blockAt, isPeriod, isContinuation, moreOf, dosesOf, doseIn}
 use Rattle.plan.specs.declared.Dose.{Dose}
 use Rattle.form.specs.Form.{goesOn, misplaced, daysOut, notZero, fieldOut, recordOut, dosesOut, periodOut, continuationOut, blockOut}
-use Rattle.form.specs.Whole.{Whole}
+use Rattle.form.specs.code.Whole.{Whole}
 use Rattle.form.proofs.Formed.{Formed, placed, ranged}
 use Rattle.form.proofs.Laws.{whole}
 

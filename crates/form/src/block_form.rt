@@ -1,24 +1,27 @@
 // Rules 2 and 4 of one whole block: its fields and dose records, and then its zero bytes and sums.
-use block::ends_right;
 use block::is_zero;
 use block::long_at;
-use block::longs_at;
+use block::sums_right;
 use block::word_at;
 use day::is_no_span;
 use plan::count_of;
+use plan::dose_of;
 use plan::end_of;
 use plan::first_of;
 use plan::kind_of;
+use plan::record_of;
+use plan::record_start;
+use plan::spare_of;
 ghost use mathlib.Core.Path.{_≡_};
-ghost use Prim.Native.Nat.{_/_, _%_, _≤_, _<_};
+ghost use Prim.Native.Nat.{_≤_, _<_};
 ghost use mathlib.Core.Bool.{cond, not, _||_};
-ghost use lib.Dec.{eqb, ltb};
+ghost use lib.Dec.{eqb};
 ghost use lib.ListN.{length};
 ghost use Rattle.below.specs.Below.{anyBelow};
 ghost use Rattle.block.specs.Sums.{sumsRight};
 ghost use Rattle.plan.specs.Fields.{recordAt};
 ghost use Rattle.form.specs.Form.{daysOut, notZero, recordOut, blockOut};
-ghost use Rattle.form.specs.Front.{recordsOut, headFront, periodFront, continuationFront, frontOut, recordsOf};
+ghost use Rattle.form.specs.code.Front.{recordsOut, headFront, periodFront, continuationFront, frontOut, recordsOf};
 
 // Is one of the bytes from a up to e not zero?
 fn not_zero(r: &[u8], a: usize, e: usize) -> bool
@@ -34,47 +37,35 @@ fn days_out(r: &[u8]) -> bool
     is_no_span(first_of(r), end_of(r))
 }
 
-// The first eight bytes of a dose record as one number: above the day number the time kind, the need mark, the minute, and bytes
-// 6 and 7. Where those two are not zero, they and the minute together pass every minute. A number below 2^25 has a mark of at
-// most 1 and zero above it, as every right one without a clock time has.
-fn time_out(w: u64) -> bool
-    ensures { λ t. ⌜ t ≡ (ltb 5 (w / 65536 % 256) || ltb 1 (w / 16777216 % 256) || ltb (cond (eqb (w / 65536 % 256) 5) 1439 0) (w / 4294967296)) ⌝ }
+// The latest minute of a time kind.
+fn latest_minute(kind: u8) -> u16
+    ensures { λ r. ⌜ r ≡ cond (eqb kind 5) 1439 0 ⌝ }
 {
-    let kind = w / 65536 % 256;
-    if w < 33554432 {
-        return 5 < kind;
-    }
-    if kind != 5 {
-        return true;
-    }
-    (1 < w / 16777216 % 256) | (1439 < w / 4294967296)
+    if kind == 5 { 1439 } else { 0 }
 }
 
 fn record_out(record: &[u8]) -> bool
     requires { ⌜ length (now «record») ≡ 24 ⌝ }
     ensures { λ t. ⌜ t ≡ recordOut (now («record» .entry)) ⌝ }
 {
-    let x = longs_at(record, 0);
-    if 9999999999 < x.second {
-        return true;
-    }
-    if 9999999999 < x.third {
-        return true;
-    }
-    time_out(x.first)
+    let d = dose_of(record);
+    (5 < d.kind)
+        | (1 < d.mark)
+        | (latest_minute(d.kind) < d.minute)
+        | (9999999999 < d.low)
+        | (9999999999 < d.high)
+        | !(spare_of(record) == 0)
 }
 
 // Dose record i of a block, handed on as a part of it.
-fn dose_out(r: &[u8], i: usize) -> bool
+fn dose_out(r: &[u8], i: u8) -> bool
     requires { ⌜ (length (now r) ≡ 512) × (i < 20) ⌝ }
     ensures { λ t. ⌜ t ≡ recordOut (recordAt (now (r .entry)) i) ⌝ }
 {
-    let at = 24 + i * 24;
-    let end = at + 24;
-    record_out(&r[at..end])
+    record_out(record_of(r, i))
 }
 
-fn any_dose_out(r: &[u8], n: usize) -> bool
+fn any_dose_out(r: &[u8], n: u8) -> bool
     requires { ⌜ (length (now r) ≡ 512) × (n ≤ 20) ⌝ }
     ensures { λ t. ⌜ t ≡ anyBelow n (λ i. recordOut (recordAt (now (r .entry)) i)) ⌝ }
 {
@@ -90,7 +81,7 @@ fn records_out(r: &[u8]) -> bool
     requires { ⌜ length (now r) ≡ 512 ⌝ }
     ensures { λ t. ⌜ t ≡ recordsOut (now (r .entry)) ⌝ }
 {
-    let n = count_of(r) as usize;
+    let n = count_of(r);
     if 20 < n {
         return true;
     }
@@ -159,7 +150,7 @@ fn records_of(r: &[u8]) -> u8
     if kind_of(r) == 1 { 0 } else { count_of(r) }
 }
 
-// Rules 2 and 4 of a block. Zeros and sums are looked at together: the sums need not be made over zeros.
+// Rules 2 and 4 of a block: its front, then the zeros behind its records, then its sums.
 pub(crate) fn block_wrong(r: &[u8]) -> bool
     requires { ⌜ length (now r) ≡ 512 ⌝ }
     ensures { λ t. ⌜ t ≡ (blockOut (now (r .entry)) || not (sumsRight (now (r .entry)))) ⌝ }
@@ -167,5 +158,8 @@ pub(crate) fn block_wrong(r: &[u8]) -> bool
     if front_out(r) {
         return true;
     }
-    !ends_right(r, records_of(r))
+    if not_zero(r, record_start(records_of(r)), 504) {
+        return true;
+    }
+    !sums_right(r)
 }

@@ -12,8 +12,8 @@ ghost use Rattle.below.specs.Below.{firstBelow};
 ghost use Rattle.refusal.specs.Order.{lowestBlock};
 ghost use Rattle.plan.specs.Periods.{blocksOf};
 ghost use Rattle.form.specs.Form.{badLength, sumsWrong, noHead, goesOn, misplaced, formBreaks, formOf};
-ghost use Rattle.form.specs.Front.{brokenAt};
-ghost use Rattle.form.specs.Whole.{Whole};
+ghost use Rattle.form.specs.code.Front.{brokenAt};
+ghost use Rattle.form.specs.code.Whole.{Whole};
 
 // Rule 1.
 fn bad_length(plan: &[u8], limit: u16) -> bool

@@ -6,11 +6,11 @@ use mathlib.Core.Path.{_≡_, ap, _∙_}
 use native.Mathlib.Omega.{arith}
 use lib.ListN.{length, drop-of-length-le}
 use Rattle.below.proofs.Lists.{join-zero, join-split, join-none, join-same}
-use Rattle.below.specs.Lists.{joinBelow}
+use Rattle.below.specs.Lists.{joinBelow, Every.none, Every.more}
 use Rattle.block.specs.Sums.{sealed}
 use Rattle.plan.specs.Periods.{blockAt, isPeriod}
-use Rattle.layout.specs.declared.Head.{Head}
-use Rattle.layout.specs.Fits.{Every.none, Every.more, HeadFits, WrittenFits, AllFit}
+use Rattle.plan.specs.declared.Head.{Head}
+use Rattle.layout.specs.code.Fits.{HeadFits, WrittenFits, AllFit}
 use Rattle.layout.specs.Layout.{Written, headBytes, bodyOf, laidOut}
 use Rattle.layout.specs.Reading.{headOf, periodAt, periodsOf}
 use Rattle.layout.proofs.Blocks.{length-laid, blocks-laid, block-laid}

@@ -9,17 +9,18 @@ use lib.Dec.{eqb, eqb·suc-zero}
 use lib.ListN.{length, getD, drop, replicate, length-append, length-replicate, length-take, getD-replicate, List·getD-eq-default, List·getD-append}
 use lib.Seq.{getD-append-add}
 use Rattle.below.proofs.Tests.{le-or-lt}
-use Rattle.below.specs.Lists.{listBelow, joinOver}
+use Rattle.below.specs.Lists.{listBelow, joinOver, Every, Every.more}
 use Rattle.block.proofs.Numbers.{number-same}
 use Rattle.block.proofs.Sealing.{length-sealed, sealed-ahead}
 use Rattle.block.specs.Bytes.{byteAt, numberAt, bytesOf}
 use Rattle.block.specs.Sums.{sealed}
+use Rattle.plan.proofs.DoseRecord.{length-dose}
 use Rattle.plan.specs.Periods.{blocksOf, blockAt}
 use Rattle.plan.specs.declared.Dose.{Dose}
-use Rattle.layout.specs.declared.Head.{Head}
+use Rattle.plan.specs.declared.Head.{Head}
 use Rattle.plan.specs.declared.Header.{Header}
-use Rattle.layout.specs.Fits.{Every, Every.more}
-use Rattle.layout.specs.Layout.{Written, filled, headBytes, periodStart, continuationStart, doseBytes, dosesHere, periodBlock, blocksFor, bodyOf, laidOut}
+use Rattle.plan.specs.Fields.{doseBytes}
+use Rattle.layout.specs.Layout.{Written, filled, headBytes, periodStart, continuationStart, dosesHere, periodBlock, blocksFor, bodyOf, laidOut}
 use Rattle.layout.proofs.Every.{every-all, every-map, every-list, all-over}
 use Rattle.layout.proofs.Runs.{Alike, length-run, part-run}
 
@@ -57,10 +58,6 @@ module _ (bs : List ℕ) where
   number-sealed h w j l = number-same w (sealed (filled bs)) bs j j (λ k m. byte-sealed h (j + k) (omega arith))
 
 -- each dose has 24 bytes
-pub length-dose : (d : Dose) → length (doseBytes d) ≡ 24
-unfolding doseBytes bytesOf
-length-dose d = refl
-
 pub doses-alike : (ds : List Dose) → Alike doseBytes 24 ds
 doses-alike ds = every-all length-dose ds
 

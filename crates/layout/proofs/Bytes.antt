@@ -6,16 +6,17 @@ use mathlib.Core.Path.{_≡_}
 use native.Mathlib.Omega.{arith}
 use lib.ListN.{length, take, drop, replicate, List·getD-eq-default}
 use Rattle.below.proofs.Tests.{le-or-lt}
-use Rattle.below.specs.Lists.{listBelow}
+use Rattle.below.specs.Lists.{listBelow, Every, Every.none, Every.more}
 use Rattle.block.proofs.Numbers.{AreBytes, bytes-bytes}
 use Rattle.block.proofs.Put.{put-in, put-out}
 use Rattle.block.proofs.Sealing.{sealed-is}
 use Rattle.block.specs.Bytes.{bytesOf, put}
 use Rattle.block.specs.Sums.{sumsOf, sealed}
 use Rattle.plan.specs.declared.Dose.{Dose}
-use Rattle.layout.specs.declared.Head.{Head}
-use Rattle.layout.specs.Fits.{Every, Every.none, Every.more, HeadFits, DoseFits, WrittenFits, AllFit}
-use Rattle.layout.specs.Layout.{Written, filled, headBytes, periodStart, continuationStart, doseBytes, dosesHere, periodBlock, blocksFor, bodyOf, laidOut}
+use Rattle.plan.specs.declared.Head.{Head}
+use Rattle.layout.specs.code.Fits.{HeadFits, DoseFits, WrittenFits, AllFit}
+use Rattle.plan.specs.Fields.{doseBytes}
+use Rattle.layout.specs.Layout.{Written, filled, headBytes, periodStart, continuationStart, dosesHere, periodBlock, blocksFor, bodyOf, laidOut}
 use Rattle.layout.proofs.Blocks.{byte-zeros, few-here, startAt, period-is, start-first, start-next, blocks-whole}
 use Rattle.layout.proofs.Every.{every-at, at-every, every-both, every-append, every-take, every-drop, every-list, every-over}
 

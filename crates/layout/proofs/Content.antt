@@ -10,11 +10,11 @@ use Rattle.block.proofs.Numbers.{number-same, number-bytes}
 use Rattle.block.proofs.Sealing.{length-sealed, sealed-ahead}
 use Rattle.block.specs.Bytes.{byteAt, numberAt, bytesOf}
 use Rattle.block.specs.Sums.{sealed}
-use Rattle.plan.specs.Fields.{kindOf, countOf, intervalOf, firstOf, endOf, unitOf, planNumberOf, revisionOf, vkaOf, recordAt, doseOf}
+use Rattle.plan.specs.Fields.{kindOf, countOf, intervalOf, firstOf, endOf, unitOf, planNumberOf, revisionOf, vkaOf, recordAt, doseOf, doseBytes}
 use Rattle.plan.specs.declared.Dose.{Dose}
-use Rattle.layout.specs.declared.Head.{Head}
-use Rattle.layout.specs.Fits.{HeadFits, HeaderFits, DoseFits}
-use Rattle.layout.specs.Layout.{Written, filled, headBytes, periodStart, continuationStart, doseBytes, dosesHere, periodBlock}
+use Rattle.plan.specs.declared.Head.{Head}
+use Rattle.layout.specs.code.Fits.{HeadFits, HeaderFits, DoseFits}
+use Rattle.layout.specs.Layout.{Written, filled, headBytes, periodStart, continuationStart, dosesHere, periodBlock}
 use Rattle.layout.proofs.Blocks.{byte-sealed, length-head, length-doses, doses-alike, few-here, doseBlock, length-content, length-dose-block, startAt, period-is, start-first, start-next, length-start}
 use Rattle.layout.proofs.Runs.{part-run, part-same}
 

@@ -5,9 +5,8 @@ use mathlib.Core.List.{List, [], _∷_, _++_}
 use native.Mathlib.Nat.{not-suc-le-zero, le-of-suc-le-suc}
 use native.Mathlib.Omega.{arith}
 use lib.ListN.{length, getD, take, drop}
-use Rattle.below.specs.Lists.{listBelow, pickBelow, joinBelow, keep, joinOver}
+use Rattle.below.specs.Lists.{listBelow, pickBelow, joinBelow, keep, joinOver, Every, Every.none, Every.more}
 use mathlib.Core.Path.{_≡_, refl}
-use Rattle.layout.specs.Fits.{Every, Every.none, Every.more}
 
 module _ {A : Type 0} {P : A → Type 0} where
   pub every-at : {xs : List A} → Every P xs → (d : A) (i : ℕ) → i < length xs → P (getD xs i d)

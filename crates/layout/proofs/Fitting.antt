@@ -14,7 +14,8 @@ use Rattle.form.specs.Form.{daysOut, notZero, dosesOut, headOut, periodOut, blo
 use Rattle.form.specs.declared.Form.the-variants.{Right}
 use Rattle.plan.specs.Fields.{kindOf, vkaOf, recordAt, doseOf}
 use Rattle.plan.specs.Periods.{blocksOf, blockAt, isPeriod, dosesOf, doseIn}
-use Rattle.layout.specs.Fits.{Every, Every.none, Every.more, HeadFits, HeaderFits, DoseFits, WrittenFits, AllFit, HeadRanged, WrittenRanged, Ranged}
+use Rattle.below.specs.Lists.{Every, Every.none, Every.more}
+use Rattle.layout.specs.code.Fits.{HeadFits, HeaderFits, DoseFits, WrittenFits, AllFit, HeadRanged, WrittenRanged, Ranged}
 use Rattle.layout.specs.Layout.{Written}
 use Rattle.layout.specs.Reading.{headOf, headerAt, dosesAt, periodAt, periodsOf}
 use Rattle.layout.proofs.Bytes.{part-bytes}

@@ -16,13 +16,13 @@ use Rattle.block.specs.Sums.{sealed}
 use Rattle.form.proofs.Formed.{right}
 use Rattle.form.specs.Form.{badLength, goesOn, misplaced, daysOut, notZero, recordOut, dosesOut, headOut, periodOut, continuationOut, blockOut, formOf}
 use Rattle.form.specs.declared.Form.the-variants.{Right}
-use Rattle.plan.specs.Fields.{countOf, recordAt}
+use Rattle.plan.specs.Fields.{countOf, recordAt, doseBytes}
 use Rattle.plan.specs.Periods.{blocksOf, blockAt}
 use Rattle.plan.specs.declared.Dose.{Dose}
-use Rattle.layout.specs.declared.Head.{Head}
+use Rattle.plan.specs.declared.Head.{Head}
 use Rattle.plan.specs.declared.Header.{Header}
-use Rattle.layout.specs.Fits.{HeadFits, DoseFits, WrittenFits, AllFit, HeadRanged, DoseRanged, WrittenRanged, Ranged}
-use Rattle.layout.specs.Layout.{Written, filled, headBytes, periodStart, continuationStart, doseBytes, dosesHere, periodBlock, bodyOf, laidOut}
+use Rattle.layout.specs.code.Fits.{HeadFits, DoseFits, WrittenFits, AllFit, HeadRanged, DoseRanged, WrittenRanged, Ranged}
+use Rattle.layout.specs.Layout.{Written, filled, headBytes, periodStart, continuationStart, dosesHere, periodBlock, bodyOf, laidOut}
 use Rattle.layout.proofs.Back.{block-head, laid-stand}
 use Rattle.layout.proofs.Blocks.{byte-zeros, length-head, few-here, start-first, start-next, length-laid, blocks-laid, block-laid, blocks-whole}
 use Rattle.layout.proofs.Content.{noDose, dose-back, kind-first, kind-next, count-here, first-back, end-back, period-byte, period-record, period-behind, head-kind, head-count, head-vka, head-start, head-end}

@@ -20,7 +20,7 @@ use Rattle.form.proofs.Formed.{Formed, summed, ranged}
 use Rattle.form.proofs.Laws.{whole, short, length-block}
 use Rattle.form.proofs.Ranged.{goes, inside, doses-in, full, count-in}
 use Rattle.form.specs.Form.{daysOut, notZero, dosesOut, periodOut, continuationOut, blockOut}
-use Rattle.form.specs.Whole.{Whole}
+use Rattle.form.specs.code.Whole.{Whole}
 use Rattle.plan.proofs.Marks.{at-place}
 use Rattle.plan.specs.Fields.{kindOf, countOf, recordAt, doseOf}
 use Rattle.plan.specs.Periods.{blocksOf, blockAt, isPeriod, isContinuation, moreOf, dosesOf, doseIn}

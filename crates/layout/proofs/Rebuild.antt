@@ -20,9 +20,9 @@ use Rattle.block.proofs.Zero.{zero-at, zeros}
 use Rattle.block.specs.Bytes.{byteAt, numberAt, bytesOf, isZero}
 use Rattle.block.specs.Sums.{sealed, sumsRight}
 use Rattle.form.specs.Form.{daysOut, notZero, fieldOut, recordOut, dosesOut, headOut}
-use Rattle.plan.specs.Fields.{kindOf, countOf, intervalOf, firstOf, endOf, unitOf, planNumberOf, revisionOf, vkaOf, recordAt, doseOf}
+use Rattle.plan.specs.Fields.{kindOf, countOf, intervalOf, firstOf, endOf, unitOf, planNumberOf, revisionOf, vkaOf, recordAt, doseOf, doseBytes}
 use Rattle.plan.specs.declared.Dose.{Dose}
-use Rattle.layout.specs.Layout.{filled, headBytes, periodStart, continuationStart, doseBytes}
+use Rattle.layout.specs.Layout.{filled, headBytes, periodStart, continuationStart}
 use Rattle.layout.proofs.Blocks.{byte-filled, length-filled, doseBlock, length-content, length-dose-block}
 use Rattle.layout.proofs.Bytes.{part-bytes}
 

@@ -6,9 +6,8 @@ use native.Mathlib.Nat.{not-suc-le-zero, le-of-suc-le-suc, suc-mul, zero-mul}
 use native.Mathlib.Omega.{arith}
 use lib.ListN.{length, getD, take, drop, length-append, length-drop}
 use lib.Seq.{take-at, drop-append-add, length-take-le, getD-take, getD-drop, ext-getD}
-use Rattle.below.specs.Lists.{joinOver}
+use Rattle.below.specs.Lists.{joinOver, Every, Every.none, Every.more}
 use Rattle.block.specs.Bytes.{byteAt}
-use Rattle.layout.specs.Fits.{Every, Every.none, Every.more}
 
 module _ {A : Type 0} (f : A → List ℕ) (m : ℕ) where
   -- each element's list has m elements

@@ -11,12 +11,12 @@ use borrow.Author.Tests.{eq-eqb}
 use Rattle.below.proofs.Lists.{length-list, getD-list, list-same, list-of}
 use Rattle.below.proofs.Search.{first-is}
 use Rattle.below.proofs.Tests.{le-or-lt}
-use Rattle.below.specs.Lists.{listBelow, joinOver}
+use Rattle.below.specs.Lists.{listBelow, joinOver, Every, Every.none, Every.more}
 use Rattle.block.specs.Sums.{sealed}
 use Rattle.plan.specs.Fields.{kindOf, countOf}
 use Rattle.plan.specs.Periods.{blockAt, isContinuation, moreOf, dosesOf, doseIn}
 use Rattle.plan.specs.declared.Dose.{Dose}
-use Rattle.layout.specs.Fits.{Every, Every.none, Every.more, WrittenFits}
+use Rattle.layout.specs.code.Fits.{WrittenFits}
 use Rattle.layout.specs.Layout.{Written, dosesHere, periodBlock, blocksFor, bodyOf}
 use Rattle.layout.specs.Reading.{headerAt, dosesAt, periodAt}
 use Rattle.layout.proofs.Content.{noDose, dose-back, kind-first, kind-next, count-here, interval-back, first-back, end-back, period-record}

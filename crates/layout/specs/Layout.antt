@@ -7,8 +7,9 @@ use lib.ListN.{length, take, drop, replicate}
 use Rattle.below.specs.Lists.{listBelow, joinOver}
 use Rattle.block.specs.Bytes.{bytesOf}
 use Rattle.block.specs.Sums.{sealed}
+use Rattle.plan.specs.Fields.{doseBytes}
 use Rattle.plan.specs.declared.Dose.{Dose}
-use Rattle.layout.specs.declared.Head.{Head}
+use Rattle.plan.specs.declared.Head.{Head}
 use Rattle.plan.specs.declared.Header.{Header}
 
 -- a period: its header, and its doses in their order
@@ -34,11 +35,6 @@ periodStart q n = 2 ∷ n ∷ bytesOf 2 (q .interval) ++ (bytesOf 4 (q .first) +
 -- "Continuation: byte 0 = 3; byte 1 = doses here ..; doses from 24."
 unfoldable pub continuationStart : ℕ → List ℕ
 continuationStart n = 3 ∷ n ∷ replicate 22 0
-
--- "Dose: 0-1 day number ..; 2 time kind; 3 need mark ..; 4-5 minute; 8-15 low amount; 16-23 high amount."
-unfoldable pub doseBytes : Dose → List ℕ
-doseBytes d =
-    bytesOf 2 (d .day) ++ (d .kind ∷ d .mark ∷ bytesOf 2 (d .minute) ++ (0 ∷ 0 ∷ bytesOf 8 (d .low) ++ bytesOf 8 (d .high)))
 
 -- "blocks are filled to 20": the doses of a period's block i
 abbrev pub dosesHere : ℕ → List Dose → List Dose

@@ -6,7 +6,7 @@ use Rattle.below.specs.Lists.{listBelow, joinBelow}
 use Rattle.plan.specs.declared.Dose.{Dose}
 use Rattle.plan.specs.Fields.{unitOf, firstOf, endOf, planNumberOf, revisionOf, vkaOf, headerOf}
 use Rattle.plan.specs.Periods.{blocksOf, blockAt, isPeriod, dosesOf, doseIn}
-use Rattle.layout.specs.declared.Head.{Head}
+use Rattle.plan.specs.declared.Head.{Head}
 use Rattle.plan.specs.declared.Header.{Header}
 use Rattle.layout.specs.Layout.{Written}
 

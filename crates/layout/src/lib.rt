@@ -1,6 +1,7 @@
 // What a plan's bytes are made of: its head and its periods, and how they are read from the bytes. How they are laid out in
 // blocks stands in specs/Layout.antt; that reading is the inverse of laying out, and laying out that of reading, in
 // proofs/.
+use plan::Head;
 use plan::Header;
 use plan::block_of;
 use plan::end_of;
@@ -12,16 +13,6 @@ use plan::unit_of;
 use plan::vka_of;
 ghost use mathlib.Core.Path.{_≡_};
 ghost use Rattle.layout.specs.Reading.{headOf, headerAt};
-
-// A head without its count and sums.
-pub struct Head {
-    pub unit: u16,
-    pub start: u32,
-    pub end: u32,
-    pub number: u32,
-    pub revision: u32,
-    pub vka: u8,
-}
 
 // The head of a plan.
 pub fn head_of(plan: &[u8]) -> Head

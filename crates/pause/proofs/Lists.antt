@@ -16,8 +16,7 @@ use Rattle.below.specs.Below.{anyBelow}
 use Rattle.block.specs.Bytes.{wordAt}
 use Rattle.pause.specs.declared.Pause.{Pause}
 use Rattle.pause.specs.declared.Pauses.{Pauses}
-use Rattle.pause.specs.Pauses.{noDay, holds, isPaused, isOut, areOut, firstOf, packedIn, pausesIn}
-use Rattle.pause.specs.Kept.{areOutIn}
+use Rattle.pause.specs.Pauses.{noDay, holds, isPaused, isOut, areOutOf, areOut, firstOf, packedIn, pausesIn}
 
 -- what stands at a place that a list has, whatever stands past its end
 pub at-any : (xs : List Pause) (i : ℕ) (a b : Pause) → i < length xs → getD xs i a ≡ getD xs i b
@@ -97,8 +96,8 @@ paused-first n xs d few =
     (λ e. let s = any-some at (length xs) e in any-hit at (omega (arith, s .1)) (s .2)))
 
 -- and the pauses by value are out where the list is
-pub out-first : (ps : Pauses) (xs : List Pause) → ps .count ≡ length xs → ps .at ≡ firstOf 32 xs → areOutIn ps ≡ areOut xs
-unfolding areOutIn areOut
+pub out-first : (ps : Pauses) (xs : List Pause) → ps .count ≡ length xs → ps .at ≡ firstOf 32 xs → areOutOf (ps .count) (ps .at) ≡ areOut xs
+unfolding areOutOf
 out-first ps xs n at =
     rw (n, at)
     (⊎-elim
@@ -110,5 +109,5 @@ out-first ps xs n at =
 
 -- a list that is not out is short enough to be kept whole
 pub in-few : (xs : List Pause) → areOut xs ≡ false → length xs ≤ 32
-unfolding areOut
+unfolding areOutOf
 in-few xs e = ltb-false 32 (length xs) (or-neither _ _ e .0)

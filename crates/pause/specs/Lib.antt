@@ -1,3 +1,2 @@
 -- Document 01, "Supply": the pause records.
 pub mod Pauses
-pub mod Kept

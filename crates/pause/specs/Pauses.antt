@@ -28,9 +28,12 @@ isPaused xs d = anyBelow (length xs) (λ i. holds (getD xs i noDay) d)
 abbrev pub isOut : Pause → Bool
 isOut x = isNoSpan (x .first) (x .last)
 
--- 21: "more than 32 pauses, or a pause that .."
-unfoldable pub areOut : List Pause → Bool
-areOut xs = ltb 32 (length xs) || anyBelow (length xs) (λ i. isOut (getD xs i noDay))
+-- 21: "more than 32 pauses, or a pause that ..", of n pauses, which begin with those of xs; and of a list
+unfoldable pub areOutOf : ℕ → List Pause → Bool
+areOutOf n xs = ltb 32 n || anyBelow n (λ i. isOut (getD xs i noDay))
+
+abbrev pub areOut : List Pause → Bool
+areOut xs = areOutOf (length xs) xs
 
 -- the first n of a list's pauses, and as many that hold no day as are lacking
 unfoldable pub firstOf : ℕ → List Pause → List Pause

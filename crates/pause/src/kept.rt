@@ -6,8 +6,7 @@ use crate::test::is_out;
 ghost use mathlib.Core.Path.{_≡_};
 ghost use Prim.Native.Nat.{_/_, _<_};
 ghost use lib.ListN.{length, getD, set};
-ghost use Rattle.pause.specs.Pauses.{noDay, firstOf, pausesIn};
-ghost use Rattle.pause.specs.Kept.{areOutIn};
+ghost use Rattle.pause.specs.Pauses.{noDay, areOutOf, firstOf, pausesIn};
 
 // The array with `p` at `i`.
 pub(crate) fn with_pause(a: [Pause; 32], i: usize, p: Pause) -> [Pause; 32]
@@ -21,7 +20,7 @@ pub(crate) fn with_pause(a: [Pause; 32], i: usize, p: Pause) -> [Pause; 32]
 
 // 21: are there more than 32 pauses, or is one of them out?
 pub fn are_out(ps: Pauses) -> bool
-    ensures { λ r. ⌜ r ≡ areOutIn ps ⌝ }
+    ensures { λ r. ⌜ r ≡ areOutOf (ps .count) (ps .at) ⌝ }
 {
     let count = ps.count;
     if 32 < count {

@@ -14,8 +14,8 @@ use Rattle.plan.specs.declared.Dose.{Dose}
 use Rattle.plan.specs.Fields.{isMarked}
 use Rattle.period.specs.declared.turn.Walk.{Walk}
 use Rattle.period.specs.Doses.{falls, passes, anyDayUnmarked, besideAnyDay, isTimed, isUntimed, twice, bothKinds, doseBreaks, tooMuch}
-use Rattle.period.specs.Twice.{hasTwice, Rising}
-use Rattle.period.specs.Finish.{isPast, isAnyDay, isBoth, roundBy, isTooMuch}
+use Rattle.period.specs.code.Twice.{hasTwice, Rising}
+use Rattle.period.specs.code.Finish.{isPast, isAnyDay, isBoth, roundBy, isTooMuch}
 use Rattle.period.proofs.Counts.{any-not-count}
 use Rattle.period.proofs.Walked.{passBreaks, Walked}
 

@@ -9,7 +9,7 @@ use borrow.Author.Tests.{eqb-true}
 use Rattle.below.specs.Below.{firstFrom, firstBelow}
 use Rattle.below.proofs.Search.{first-facts}
 use Rattle.below.proofs.Tests.{bool-cases}
-use Rattle.period.specs.Turn.{lowest}
+use Rattle.period.specs.code.Turn.{lowest}
 
 -- the test of rule k, of those given; rules 8, 10 and 12 have none
 abbrev pub testOf : Bool → Bool → Bool → Bool → ℕ → Bool

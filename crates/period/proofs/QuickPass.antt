@@ -18,11 +18,11 @@ use Rattle.plan.specs.Fields.{isMarked, upperOf}
 use Rattle.plan.specs.Periods.{blockAt, dosesOf, doseIn}
 use Rattle.period.specs.declared.quick.Quick.{Quick}
 use Rattle.period.specs.Doses.{falls, passes, anyDayUnmarked, besideAnyDay, sameDay, isTimed, isUntimed, twice, otherAmounts, bothKinds, badRange, doseBreaks, unmarkedUpper, unmarkedDay, roundOf, tooMuch}
-use Rattle.period.specs.Finish.{NotYet}
+use Rattle.period.specs.code.Finish.{NotYet}
 use Rattle.period.specs.Period.{limitOf, periodBreaks}
-use Rattle.period.specs.Quick.{quickRank, quickBegun, quickTurned, QuickRoom, Quickly, mayPass, mayAnyDay, mayBoth, mayTooMuch, Apart}
+use Rattle.period.specs.code.Quick.{quickRank, quickBegun, quickTurned, QuickRoom, Quickly, mayPass, mayAnyDay, mayBoth, mayTooMuch, Apart}
 use Rattle.period.proofs.Counts.{any-count, any-not-count}
-use Rattle.period.specs.Turn.{isClock}
+use Rattle.period.specs.code.Turn.{isClock}
 use Rattle.period.proofs.Rank.{same-is, twice-is, timed-is, others}
 use Rattle.period.proofs.Ruling.{one-on}
 

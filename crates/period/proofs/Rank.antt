@@ -10,7 +10,7 @@ use Rattle.below.proofs.Tests.{bool-cases, and-both, or-either}
 use Rattle.plan.specs.declared.Dose.{Dose}
 use Rattle.plan.specs.Fields.{isMarked}
 use Rattle.period.specs.Doses.{sameDay, isTimed, isUntimed, twice, otherAmounts}
-use Rattle.period.specs.Turn.{isClock, rankOf, lastAt, sameAmounts, isLike, turned}
+use Rattle.period.specs.code.Turn.{isClock, rankOf, lastAt, sameAmounts, isLike, turned}
 use Rattle.period.specs.declared.turn.Walk.{Walk}
 
 -- two marks are one

@@ -15,9 +15,9 @@ use Rattle.plan.specs.Periods.{blockAt, dosesOf, doseIn, hasUnmarked, hasMarked
 use Rattle.period.specs.declared.turn.Walk.{Walk}
 use Rattle.period.specs.Doses.{doseBreaks, tooMuch}
 use Rattle.period.specs.Period.{outside, early, limitOf, periodBreaks, ruleOf}
-use Rattle.period.specs.Turn.{Passed}
-use Rattle.period.specs.Twice.{hasTwice, Rising}
-use Rattle.period.specs.Finish.{isPast, isAnyDay, isBoth, isTooMuch, NotYet}
+use Rattle.period.specs.code.Turn.{Passed}
+use Rattle.period.specs.code.Twice.{hasTwice, Rising}
+use Rattle.period.specs.code.Finish.{isPast, isAnyDay, isBoth, isTooMuch, NotYet}
 use Rattle.period.proofs.Counts.{any-count, any-not-count}
 use Rattle.period.proofs.Walked.{Walked, walked}
 use Rattle.period.proofs.Ends as ends

@@ -1,64 +1,22 @@
 -- Rule 10 by the tag of the last dose at each time. Assumes nothing.
-use Prim.Native.Nat.{ℕ, _+_, _-_, _*_, _/_, _%_, _≤_, _<_}
+use Prim.Native.Nat.{ℕ, _+_, _-_, _≤_, _<_}
 use mathlib.Core.Bool.{Bool, true, false, cond}
 use mathlib.Core.List.{List}
 use mathlib.Core.Logic.{⊎-elim}
-use mathlib.Core.Path.{_≡_, refl, sym, _∙_}
+use mathlib.Core.Path.{_≡_, sym, _∙_}
 use native.Mathlib.Omega.{arith}
 use lib.Dec.{eqb, ltb}
-use lib.ListN.{getD, set, replicate, take, drop, length-replicate, length-set, length-take, List·getD-eq-default}
-use lib.Seq.{getD-set-same, getD-set-other, getD-take, getD-drop}
+use lib.ListN.{getD, set, replicate, length-replicate, length-set}
+use lib.Seq.{getD-set-same, getD-set-other}
 use borrow.Author.Count.{below-more}
 use borrow.Author.Tests.{eq-eqb, eqb-true, eqb-false, ne-eqb, ltb-true, lt-ltb}
 use Rattle.below.proofs.Search.{NoneBelow, any-hit, any-none}
 use Rattle.below.proofs.Tests.{bool-cases, true-not-false, not-true-false, le-or-lt}
-use Rattle.block.proofs.Numbers.{AreBytes, number-part}
-use Rattle.block.specs.Bytes.{longAt}
-use Rattle.plan.proofs.Opened.{day-is, kind-is, mark-is, minute-is}
 use Rattle.plan.specs.declared.Dose.{Dose}
-use Rattle.plan.specs.Fields.{recordAt, doseOf}
-use Rattle.plan.specs.Periods.{blockAt, doseIn}
 use Rattle.period.specs.Doses.{isTimed, twice}
-use Rattle.period.specs.Turn.{isClock}
+use Rattle.period.specs.code.Turn.{isClock}
 use Rattle.period.proofs.Rank.{twice-is, timed-is}
-use Rattle.period.specs.Twice.{twiceAt, Rising, timeOf, slotOf, Seen}
-
--- a part of a list of bytes
-part-bytes : (s : List ℕ) (a n : ℕ) → AreBytes s → AreBytes (take n (drop a s))
-part-bytes s a n h i =
-    ⊎-elim
-    (λ (l : n ≤ i).
-    let e : getD (take n (drop a s)) i 0 ≡ 0 = List·getD-eq-default (take n (drop a s)) 0 (rw length-take (omega arith)) in
-    rw e (omega arith))
-    (λ l. rw (getD-take n (drop a s) i 0 l, getD-drop) (h (a + i)))
-    (le-or-lt n i)
-
--- the first eight bytes of a record tell its dose, without the amounts
-pub record Told (d : Dose) (w : ℕ) : Type 0 where
-  pub day : w % 65536 ≡ d .day
-  pub kind : w / 65536 % 256 ≡ d .kind
-  pub mark : w / 16777216 % 256 ≡ d .mark
-  pub minute : w / 4294967296 % 65536 ≡ d .minute
-
-pub told : (p : List ℕ) (b j : ℕ) → AreBytes p → Told (doseIn p b j) (longAt (blockAt p (b + j / 20)) (24 + j % 20 * 24))
-unfolding doseIn doseOf blockAt
-told p b j h =
-    let r = blockAt p (b + j / 20) in
-    let s = recordAt r (j % 20) in
-    let bytes : AreBytes s = part-bytes r (24 + j % 20 * 24) 24 (part-bytes p ((b + j / 20) * 512) 512 h) in
-    let z : 24 + j % 20 * 24 + 0 ≡ 24 + j % 20 * 24 = omega arith in
-    let e : longAt s 0 ≡ longAt r (24 + j % 20 * 24) = rw z at (number-part 8 r (24 + j % 20 * 24) 24 0 (omega arith)) in
-    record {
-      day = rw (← e) (day-is s bytes);
-      kind = rw (← e) (kind-is s bytes);
-      mark = rw (← e) (mark-is s bytes);
-      minute = rw (← e) (minute-is s bytes);
-    }
-
--- the amounts do not count for a time
-pub slot-time : (d : Dose) → slotOf (timeOf d) ≡ slotOf d
-unfolding slotOf
-slot-time d = refl
+use Rattle.period.specs.code.Twice.{twiceAt, Rising, slotOf, Seen}
 
 pub slot-small : (d : Dose) → slotOf d < 1445
 unfolding slotOf

@@ -18,7 +18,7 @@ use Rattle.plan.specs.declared.Dose.{Dose}
 use Rattle.plan.specs.Fields.{isMarked}
 use Rattle.period.specs.declared.turn.Walk.{Walk}
 use Rattle.period.specs.Doses.{falls, sameDay, isTimed, isUntimed, twice, otherAmounts, badRange, unmarkedUpper, unmarkedDay}
-use Rattle.period.specs.Turn.{isClock, rankOf, lastAt, fromOf, isCrowded, isAsked, sameAmounts, isLike, isOther, isFixed, isNeed, lowest, ruleWith, nextRule, begun, turned, walkedTo}
+use Rattle.period.specs.code.Turn.{isClock, rankOf, lastAt, fromOf, isCrowded, isAsked, sameAmounts, isLike, isOther, isFixed, isNeed, lowest, ruleWith, nextRule, begun, turned, walkedTo}
 use Rattle.period.proofs.Choice.{cond-le, larger}
 use Rattle.period.proofs.Counts.{count-from}
 use Rattle.period.proofs.Lowest.{testOf, lowest-is, same-tests, no-test}

@@ -6,9 +6,9 @@ ghost use mathlib.Core.Path.{_≡_};
 ghost use Prim.Native.Nat.{_≤_, _<_};
 ghost use Rattle.plan.specs.Periods.{dosesOf, doseIn, blockAt};
 ghost use Rattle.period.specs.Period.{limitOf, ruleOf};
-ghost use Rattle.period.specs.Turn.{Room, Passed};
-ghost use Rattle.period.specs.Twice.{hasTwice};
-ghost use Rattle.period.specs.Finish.{isPast, isAnyDay, isBoth, roundBy, isTooMuch, NotYet};
+ghost use Rattle.period.specs.code.Turn.{Room, Passed};
+ghost use Rattle.period.specs.code.Twice.{hasTwice};
+ghost use Rattle.period.specs.code.Finish.{isPast, isAnyDay, isBoth, roundBy, isTooMuch, NotYet};
 
 // Rule 7: day numbers do not fall, so that the last is the largest.
 fn is_past(s: Walk, limit: u32) -> bool

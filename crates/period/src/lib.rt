@@ -22,7 +22,7 @@ ghost use mathlib.Core.Path.{_≡_};
 ghost use Prim.Native.Nat.{_≤_, _<_};
 ghost use Rattle.plan.specs.Periods.{dosesOf, blockAt, classOf};
 ghost use Rattle.period.specs.Period.{limitOf, ruleOf};
-ghost use Rattle.period.specs.Finish.{NotYet};
+ghost use Rattle.period.specs.code.Finish.{NotYet};
 
 // What was found of a period: its lowest broken rule from 5 to 14, or 15, and its class.
 pub struct Judged {

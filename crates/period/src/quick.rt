@@ -2,9 +2,11 @@
 // usual plan is let through, and pays for no more than this; all others are judged by the exact pass.
 use crate::turn::pick64;
 use crate::walk::least20;
+use block::SIZE;
 use plan::Dose;
+use plan::block_of;
+use plan::dose_at;
 use plan::dose_in;
-use plan::dose_of;
 use plan::is_marked;
 ghost use mathlib.Core.Path.{_≡_};
 ghost use mathlib.Core.Bool.{true, false};
@@ -14,8 +16,8 @@ ghost use Rattle.plan.specs.Fields.{isMarked, upperOf};
 ghost use Rattle.period.specs.Doses.{badRange};
 ghost use Rattle.plan.specs.Periods.{dosesOf, doseIn, blockAt};
 ghost use Rattle.period.specs.Period.{limitOf};
-ghost use Rattle.period.specs.Finish.{NotYet};
-ghost use Rattle.period.specs.Quick.{quickRank, quickBegun, quickTurned, QuickRoom, Quickly, mayPass, mayAnyDay, mayBoth, mayTooMuch, Apart};
+ghost use Rattle.period.specs.code.Finish.{NotYet};
+ghost use Rattle.period.specs.code.Quick.{quickRank, quickBegun, quickTurned, QuickRoom, Quickly, mayPass, mayAnyDay, mayBoth, mayTooMuch, Apart};
 
 // What the pass keeps of the doses that it has passed. It looks at nothing but the dose ahead, and ends with the first dose that is
 // out of turn.
@@ -103,23 +105,19 @@ fn not_fine(s: Quick) -> Quick
 }
 
 // The first m doses of block q of the period, the pass having come to that block. A block that the plan does not have whole is left to
-// the exact pass: of one that it has, each dose is read with no test.
+// the exact pass.
 fn quick_block(plan: &[u8], b: u8, q: u16, m: u16, s0: Quick) -> Quick
     requires { ⌜ (m ≤ 20) × (q * 20 + m ≤ 1515) ⌝ }
     requires { ⌜ Quickly (doseIn (now plan) b) (q * 20) s0 ⌝ }
     ensures { λ r. ⌜ (r .fine ≡ true → Quickly (doseIn (now (plan .entry)) b) (q * 20 + m) r) ⌝ }
 {
-    let at = ((b as usize) + (q as usize)) * 512;
-    let end = at + 512;
-    if plan.len() < end {
+    let r = block_of(plan, (b as u16) + q);
+    if r.len() != SIZE {
         return not_fine(s0);
     }
-    let r = &plan[at..end];
     let mut s = s0;
     for i in 0..m {
-        let from = 24 + (i as usize) * 24;
-        let to = from + 24;
-        let d = dose_of(&r[from..to]);
+        let d = dose_at(r, i as u8);
         let rank = quick_rank(d);
         if rank <= s.rank {
             return not_fine(s);

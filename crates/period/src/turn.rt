@@ -7,7 +7,7 @@ ghost use mathlib.Core.Bool.{cond};
 ghost use Prim.Native.Nat.{_+_, _≤_, _<_};
 ghost use Rattle.plan.specs.Fields.{isMarked};
 ghost use Rattle.period.specs.Doses.{isTimed, isUntimed, badRange};
-ghost use Rattle.period.specs.Turn.{rankOf, fromOf, isCrowded, isOther, isAsked, isClock, lastAt, begun, turned, Room};
+ghost use Rattle.period.specs.code.Turn.{rankOf, fromOf, isCrowded, isOther, isAsked, isClock, lastAt, begun, turned, Room};
 
 // What the pass keeps of the doses that it has passed.
 pub(crate) struct Walk {

@@ -1,16 +1,15 @@
 // Rule 10 where the doses of a day do not stand in the order of their times.
 use crate::turn::is_timed;
 use crate::turn::pick64;
-use block::long_at;
 use plan::Dose;
-use plan::block_of;
+use plan::dose_in;
 ghost use mathlib.Core.Path.{_≡_};
 ghost use mathlib.Core.Bool.{true, false, cond};
 ghost use Prim.Native.Nat.{_<_, min};
 ghost use lib.Dec.{ltb};
 ghost use Rattle.plan.specs.Periods.{doseIn};
 ghost use Rattle.period.specs.Doses.{twice};
-ghost use Rattle.period.specs.Twice.{twiceAt, hasTwice, Rising, timeOf, slotOf};
+ghost use Rattle.period.specs.code.Twice.{twiceAt, hasTwice, Rising, slotOf};
 
 // Rule 10 on two doses: need marks are disregarded.
 fn is_twice(d: Dose, e: Dose) -> bool
@@ -19,30 +18,14 @@ fn is_twice(d: Dose, e: Dose) -> bool
     (d.day == e.day) & (d.kind == e.kind) & (is_timed(d) | ((d.kind == 5) & (d.minute == e.minute)))
 }
 
-// Dose j without its amounts, so that eight bytes are read of it.
-fn time_in(plan: &[u8], b: u8, j: u16) -> Dose
-    ensures { λ d. ⌜ d ≡ timeOf (doseIn (now (plan .entry)) b j) ⌝ }
-{
-    let at = 24 + ((j % 20) as usize) * 24;
-    let w = long_at(block_of(plan, (b as u16) + j / 20), at);
-    Dose {
-        day: (w % 65536) as u16,
-        kind: (w / 65536 % 256) as u8,
-        mark: (w / 16777216 % 256) as u8,
-        minute: (w / 4294967296 % 65536) as u16,
-        low: 0,
-        high: 0,
-    }
-}
-
 // Rule 10 on dose j of n and those ahead of it. Day numbers do not fall, so that only those of its day need be asked.
 fn is_twice_back(plan: &[u8], b: u8, j: u16, n: u16) -> bool
     requires { ⌜ (j < n) × Rising (doseIn (now plan) b) n ⌝ }
     ensures { λ r. ⌜ r ≡ twiceAt (doseIn (now (plan .entry)) b) j ⌝ }
 {
-    let d = time_in(plan, b, j);
+    let d = dose_in(plan, b, j);
     for i in 0..j {
-        let e = time_in(plan, b, j - 1 - i);
+        let e = dose_in(plan, b, j - 1 - i);
         if e.day != d.day {
             return false;
         }
@@ -109,7 +92,7 @@ pub(crate) fn has_twice(plan: &[u8], b: u8, n: u16) -> bool
     let mut day: u16 = 0;
     let mut tag: u8 = 1;
     for j in 0..n {
-        let d = time_in(plan, b, j);
+        let d = dose_in(plan, b, j);
         let k = slot_of(d);
         let own = next_tag(tag, day == d.day);
         if is_twice_by(plan, b, j, n, last[k] == own) {

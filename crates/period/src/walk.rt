@@ -11,7 +11,7 @@ use plan::block_of;
 use plan::dose_at;
 ghost use mathlib.Core.Path.{_≡_};
 ghost use Prim.Native.Nat.{_+_, _*_, _≤_, _<_, min};
-ghost use Rattle.period.specs.Turn.{lowest, ruleWith, nextRule, Passed};
+ghost use Rattle.period.specs.code.Turn.{lowest, ruleWith, nextRule, Passed};
 
 // The lowest broken rule, by the test of each; 14 where none is.
 fn lowest_of(t7: bool, t9: bool, t11: bool, t13: bool) -> u8

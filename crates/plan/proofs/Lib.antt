@@ -2,3 +2,4 @@
 pub mod Parts
 pub mod Opened
 pub mod Marks
+pub mod DoseRecord

@@ -2,25 +2,15 @@
 use Prim.Native.Nat.{ℕ, zero, suc, _+_, _-_, _*_, _/_, _%_, _≤_, _<_, min}
 use mathlib.Core.Bool.{Bool, false, _||_}
 use mathlib.Core.List.{List}
-use mathlib.Core.Path.{_≡_, sym, _∙_}
+use mathlib.Core.Path.{_≡_, sym}
 use native.Mathlib.Omega.{arith}
-use lib.Dec.{eqb}
 use lib.ListN.{length, drop, length-drop}
-use lib.Seq.{length-take-le, getD-take, getD-drop}
+use lib.Seq.{length-take-le}
 use Rattle.below.proofs.Search.{any-zero, any-more, any-same}
 use Rattle.below.specs.Below.{anyBelow}
 use Rattle.below.proofs.Tests.{or-false, or-assoc}
-use Rattle.block.specs.Bytes.{byteAt}
-use Rattle.plan.specs.Fields.{recordAt, doseOf, isMarked}
+use Rattle.plan.specs.Fields.{recordAt, doseOf}
 use Rattle.plan.specs.Periods.{blockAt, doseIn}
-
--- the mark of dose i of a block is one of the block's bytes
-pub mark-at : (r : List ℕ) (i : ℕ) → isMarked (doseOf (recordAt r i)) ≡ eqb (byteAt r (27 + i * 24)) 1
-unfolding doseOf
-mark-at r i =
-    let a : byteAt (recordAt r i) 3 ≡ byteAt r (24 + i * 24 + 3) = getD-take 24 (drop (24 + i * 24) r) 3 0 (omega arith) ∙ getD-drop (24 + i * 24) r 3 0 in
-    let e : 24 + i * 24 + 3 ≡ 27 + i * 24 = omega arith in
-    rw (a, e)
 
 -- a block that the plan has whole
 pub whole-block : (p : List ℕ) (c : ℕ) → (c + 1) * 512 ≤ length p → length (blockAt p c) ≡ 512

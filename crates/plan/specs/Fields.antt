@@ -1,10 +1,10 @@
 -- "The block": the fields of a block r, and of a dose record.
 use Prim.Native.Nat.{ℕ, _+_, _*_}
 use mathlib.Core.Bool.{Bool, cond}
-use mathlib.Core.List.{List}
+use mathlib.Core.List.{List, _∷_, _++_}
 use lib.Dec.{eqb}
 use lib.ListN.{take, drop}
-use Rattle.block.specs.Bytes.{byteAt, halfAt, wordAt, longAt}
+use Rattle.block.specs.Bytes.{byteAt, halfAt, wordAt, longAt, bytesOf}
 use Rattle.day.specs.Days.{closedDay}
 use Rattle.plan.specs.declared.Dose.{Dose}
 use Rattle.plan.specs.declared.Header.{Header}
@@ -51,9 +51,13 @@ revisionOf r = wordAt r 16
 abbrev pub vkaOf : List ℕ → ℕ
 vkaOf r = byteAt r 20
 
--- "from 24, doses of 24 bytes each": dose record i of the block
+-- "from 24, doses of 24 bytes each": where dose record i begins in its block
+abbrev pub recordStart : ℕ → ℕ
+recordStart i = 24 + i * 24
+
+-- dose record i of the block
 abbrev pub recordAt : List ℕ → ℕ → List ℕ
-recordAt r i = take 24 (drop (24 + i * 24) r)
+recordAt r i = take 24 (drop (recordStart i) r)
 
 -- "Dose: 0-1 day number (0 = AnyDay); 2 time kind; 3 need mark, ..; 4-5 minute; 8-15 low amount; 16-23 high amount."
 unfoldable pub doseOf : List ℕ → Dose
@@ -66,6 +70,15 @@ doseOf d =
       low = longAt d 8;
       high = longAt d 16;
     }
+
+-- bytes 6 and 7 of a dose record, which that sentence does not name
+abbrev pub spareOf : List ℕ → ℕ
+spareOf d = halfAt d 6
+
+-- the same, written: the bytes of a dose record. "Bytes not named below are zero."
+unfoldable pub doseBytes : Dose → List ℕ
+doseBytes d =
+    bytesOf 2 (d .day) ++ (d .kind ∷ d .mark ∷ bytesOf 2 (d .minute) ++ (0 ∷ 0 ∷ bytesOf 8 (d .low) ++ bytesOf 8 (d .high)))
 
 -- "need mark, 1 = as needed (PN), else 0"
 abbrev pub isMarked : Dose → Bool

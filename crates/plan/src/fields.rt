@@ -1,13 +1,11 @@
-// The fields of a block and of a dose record.
-use crate::Dose;
+// The fields of a block.
 use crate::Header;
 use block::byte_at;
 use block::half_at;
-use block::longs_at;
 use block::word_at;
 use day::Day;
 ghost use mathlib.Core.Path.{_≡_};
-ghost use Rattle.plan.specs.Fields.{kindOf, countOf, intervalOf, firstOf, endOf, lastOf, headerOf, unitOf, planNumberOf, revisionOf, vkaOf, recordAt, doseOf, isMarked, upperOf};
+ghost use Rattle.plan.specs.Fields.{kindOf, countOf, intervalOf, firstOf, endOf, lastOf, headerOf, unitOf, planNumberOf, revisionOf, vkaOf};
 
 // 1 for a head, 2 for a period, 3 for a continuation.
 pub fn kind_of(r: &[u8]) -> u8
@@ -94,48 +92,4 @@ pub fn vka_of(r: &[u8]) -> u8
     ensures { λ n. ⌜ n ≡ vkaOf (now (r .entry)) ⌝ }
 {
     byte_at(r, 20)
-}
-
-// The dose that a record holds, read as three numbers.
-pub fn dose_of(record: &[u8]) -> Dose
-    ensures { λ d. ⌜ d ≡ doseOf (now («record» .entry)) ⌝ }
-{
-    let x = longs_at(record, 0);
-    let w = x.first;
-    Dose {
-        day: (w % 65536) as u16,
-        kind: (w / 65536 % 256) as u8,
-        mark: (w / 16777216 % 256) as u8,
-        minute: (w / 4294967296 % 65536) as u16,
-        low: x.second,
-        high: x.third,
-    }
-}
-
-// Dose i of a block, from a part in its middle.
-pub fn dose_at(r: &[u8], i: u8) -> Dose
-    ensures { λ d. ⌜ d ≡ doseOf (recordAt (now (r .entry)) i) ⌝ }
-{
-    let at = 24 + (i as usize) * 24;
-    let end = at + 24;
-    if end <= r.len() {
-        return dose_of(&r[at..end]);
-    }
-    if at <= r.len() {
-        return dose_of(&r[at..]);
-    }
-    dose_of(&r[..0])
-}
-
-// Is it as needed?
-pub fn is_marked(d: Dose) -> bool
-    ensures { λ r. ⌜ r ≡ isMarked d ⌝ }
-{
-    d.mark == 1
-}
-
-pub fn upper_of(d: Dose) -> u64
-    ensures { λ r. ⌜ r ≡ upperOf d ⌝ }
-{
-    if d.high == 0 { d.low } else { d.high }
 }

@@ -1,9 +1,10 @@
 // The blocks of a plan, its periods and their doses.
 use crate::Dose;
 use crate::fields::count_of;
-use crate::fields::dose_at;
-use crate::fields::is_marked;
 use crate::fields::kind_of;
+use crate::records::dose_at;
+use crate::records::is_marked;
+use crate::records::is_marked_in;
 ghost use mathlib.Core.Path.{_≡_};
 ghost use Prim.Native.Nat.{_+_, _-_, _*_, _/_, _≤_, _<_, min};
 ghost use mathlib.Core.Bool.{not, _||_};
@@ -109,7 +110,7 @@ fn with_marks(m: Marks, r: &[u8], n: u8) -> Marks
     let mut unmarked = m.unmarked;
     let mut marked = m.marked;
     for i in 0..n {
-        let mark = r[27 + (i as usize) * 24] == 1;
+        let mark = is_marked_in(r, i);
         unmarked = unmarked | !mark;
         marked = marked | mark;
     }

@@ -189,6 +189,9 @@ module _ (n : ℕ) (out : List ℕ) (x : Refusal) where
   screen-number e =
       ⊎-elim (λ (t : tooShort n out ≡ true). rw t) (λ (t : tooShort n out ≡ false). rw t e) (bool-cases (tooShort n out))
 
+  screen-placed : {v : Refusal} → Placed v x → Placed v (screenRefusal n out x)
+  screen-placed {v} h = placed-cond v (tooShort n out) (placed-alone v 26 (omega arith)) h
+
   -- a buffer that a refused call leaves as it was
   screen-keeps : (now then : List ℕ) → (Refused x → then ≡ now) → Refused (screenRefusal n out x) → cond (tooShort n out) now then ≡ now
   screen-keeps now then keeps h =
@@ -221,7 +224,7 @@ screen : ScreenCalls
 unfolding firstGiven
 screen =
     record {
-      verdict = λ p. record { refusal = refusalOf (verdictOf p); code-is = refl; in-order = verdict-first p; keeps = λ h. tt };
+      verdict = λ p. record { refusal = refusalOf (verdictOf p); code-is = refl; in-order = verdict-first p; place = inl refl; keeps = λ h. tt };
       supply = λ p start pack choice s out.
           let x = packedSupplyOf p start pack choice s in
           let r = supplyRefusal x in
@@ -229,6 +232,7 @@ screen =
             refusal = screenRefusal 32 out r;
             code-is = screen-code 32 out r (supply-code x);
             in-order = screen-number 32 out r (supply-first p start pack choice (not (eqb (length s % 8) 0) || areOut (pausesIn s)) (pausesIn s));
+            place = screen-placed 32 out r (supply-placed p start pack choice (not (eqb (length s % 8) 0) || areOut (pausesIn s)) (pausesIn s) (verdictOf p));
             keeps = screen-keeps 32 out r out (supplyOut out x) (supply-same x out);
           };
       split = λ p fixed need out.
@@ -238,6 +242,7 @@ screen =
             refusal = screenRefusal 16 out r;
             code-is = screen-code 16 out r (split-code x);
             in-order = screen-number 16 out r (split-first p fixed need);
+            place = screen-placed 16 out r (split-place p fixed need);
             keeps = λ h. (
               screen-keeps 16 out r fixed _ (λ g. left-same x g (partBytes false p) fixed) h,
               screen-keeps 16 out r need _ (λ g. left-same x g (partBytes true p) need) h,
@@ -249,6 +254,7 @@ screen =
             refusal = screenRefusal 16 out (alone 0);
             code-is = screen-code 16 out (alone 0) refl;
             in-order = screen-number 16 out (alone 0) refl;
+            place = screen-placed 16 out (alone 0) (inl refl);
             keeps = screen-keeps 16 out (alone 0) out (stretchOut out (stretchOf fixed need list day)) (λ h. absurd (h refl));
           };
       day-sums = λ p day out.
@@ -257,16 +263,18 @@ screen =
             refusal = screenRefusal 32 out r;
             code-is = screen-code 32 out r refl;
             in-order = screen-number 32 out r (verdict-first p);
+            place = screen-placed 32 out r (inl refl);
             keeps = screen-keeps 32 out r out _ (sums-same (verdictOf p) (daySums p day) out);
           };
       register = λ r c.
-          record { refusal = answered r c .refusal; code-is = refl; in-order = register-first r c; keeps = register-same r c };
+          record { refusal = answered r c .refusal; code-is = refl; in-order = register-first r c; place = answered-placed r c; keeps = register-same r c };
       releases = λ r n room out.
           let x = answered r (release n room) in
           record {
             refusal = screenRefusal 8 out (x .refusal);
             code-is = screen-code 8 out (x .refusal) refl;
             in-order = screen-number 8 out (x .refusal) (register-first r (release n room));
+            place = screen-placed 8 out (x .refusal) (answered-placed r (release n room));
             keeps = λ h. (
               screen-keeps 8 out (x .refusal) room _ (room-same r n room) h,
               screen-keeps 8 out (x .refusal) out _ (λ g. rw (not-done (x .refusal) g)) h,
@@ -278,6 +286,7 @@ screen =
             refusal = screenRefusal 16 out (x .refusal);
             code-is = screen-code 16 out (x .refusal) refl;
             in-order = screen-number 16 out (x .refusal) (register-first r (state n));
+            place = screen-placed 16 out (x .refusal) (answered-placed r (state n));
             keeps = screen-keeps 16 out (x .refusal) out _ (λ g. rw (not-done (x .refusal) g));
           };
     }

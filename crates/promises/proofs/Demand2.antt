@@ -1,6 +1,6 @@
 -- A term of demand 2. Assumes nothing.
-use Prim.Native.Nat.{ℕ, _+_, _-_}
-use mathlib.Core.Bool.{Bool, true, false}
+use Prim.Native.Nat.{ℕ, _+_, _-_, _%_}
+use mathlib.Core.Bool.{Bool, true, false, not, _||_}
 use mathlib.Core.List.{List, []}
 use mathlib.Core.Logic.{⊎-elim}
 use mathlib.Core.Option.{none, some}
@@ -13,7 +13,7 @@ use Rattle.below.proofs.Tests.{bool-cases, not-true-false}
 use Rattle.layout.proofs.Back.{head-read, periods-read}
 use Rattle.layout.proofs.Fitting.{head-fits}
 use Rattle.layout.specs.Reading.{headOf}
-use Rattle.pause.specs.Pauses.{areOut}
+use Rattle.pause.specs.Pauses.{areOut, pausesIn}
 use Rattle.pause.specs.declared.Pause.{Pause}
 use Rattle.plan.specs.Fields.{revisionOf}
 use Rattle.refusal.specs.Refusals.{alone}
@@ -22,7 +22,7 @@ use Rattle.register.proofs.LawFind.{none-some, found-held}
 use Rattle.register.proofs.Promise.{held-latest, held-signed, slot-promise}
 use Rattle.register.proofs.Reached.{planOf, signaturesIn, signaturesOf, plan-found}
 use Rattle.register.specs.History.{Event, latest, signatures}
-use Rattle.register.specs.Reached.{IsBytes, ReachedSlots}
+use Rattle.register.specs.Reached.{IsBytes, Reached}
 use Rattle.register.specs.Slots.{firstSigner, secondSigner, isHeld, slotUnder}
 use Rattle.register.specs.Sound.{sound}
 use Rattle.register.specs.Steps.{Call.state, done, refusedBy as refusedIn, signersIn, nothingBut, given, answered}
@@ -35,7 +35,7 @@ use Rattle.split.specs.Parts.{partOf, partBytes}
 use Rattle.supply.proofs.Covering.{supplied}
 use Rattle.supply.proofs.Refusing.{Unrefused, unrefused}
 use Rattle.supply.specs.Need.{needOn, stopDay, hasStop}
-use Rattle.supply.specs.Supply.{lastingOf, refusedBy, judgedOf, supplyOf}
+use Rattle.supply.specs.Supply.{lastingOf, refusedBy, judgedOf, passedOn}
 use Rattle.supply.specs.declared.Lasting.{Lasting}
 use Rattle.supply.specs.declared.Supply.the-variants.{Lasts, Refused}
 use Rattle.verdict.specs.Verdict.{verdictOf}
@@ -67,35 +67,38 @@ module _ (p : List ℕ) (part : Bool) (bytes : IsBytes p) (e : IsAccepted p) whe
 not-both : {r : Refusal} {x : Lasting} → Refused r ≡ Lasts x → ⊥
 not-both e = let z : _≡_ {A = ℕ} 0 1 = cc in omega arith
 
-pub record Answers (p : List ℕ) (start pack choice : ℕ) (ps : List Pause) (x : Lasting) : Type 0 where
+-- `out` says that 21 is due
+pub record Answers (p : List ℕ) (start pack choice : ℕ) (out : Bool) (ps : List Pause) (x : Lasting) : Type 0 where
   pub accepted : (n : ℕ) × (verdictOf p ≡ Accepted n)
-  pub unrefused : Unrefused start pack choice (areOut ps) (hasStop p) (stopDay p)
+  pub unrefused : Unrefused start pack choice out (hasStop p) (stopDay p)
   pub lasting : lastingOf (needOn choice p ps) start (stopDay p) pack ≡ x
 
-pub answers : (p : List ℕ) (start pack choice : ℕ) (ps : List Pause) (x : Lasting) → supplyOf p start pack choice ps ≡ Lasts x → Answers p start pack choice ps x
+pub answers : (p : List ℕ) (start pack choice : ℕ) (out : Bool) (ps : List Pause) (x : Lasting) →
+    passedOn (verdictOf p) (judgedOf p start pack choice out ps) ≡ Lasts x → Answers p start pack choice out ps x
 unfolding judgedOf
-answers p start pack choice ps x e = by-verdict (verdictOf p) refl
+answers p start pack choice out ps x e = by-verdict (verdictOf p) refl
   where
-    by-verdict : (a : Answer) → verdictOf p ≡ a → Answers p start pack choice ps x
+    by-verdict : (a : Answer) → verdictOf p ≡ a → Answers p start pack choice out ps x
     by-verdict (Broken r) v = absurd (not-both (rw v at e))
     by-verdict (Accepted n) v =
-        let number = refusedBy start pack choice (areOut ps) (hasStop p) (stopDay p) in
+        let number = refusedBy start pack choice out (hasStop p) (stopDay p) in
         let f = rw v at e in
         ⊎-elim
         (λ (t : eqb number 0 ≡ true).
         let g = rw t at f in
         record {
           accepted = (n, v);
-          unrefused = unrefused start pack choice (areOut ps) (hasStop p) (stopDay p) (eqb-true _ _ t);
+          unrefused = unrefused start pack choice out (hasStop p) (stopDay p) (eqb-true _ _ t);
           lasting = cc;
         })
         (λ (t : eqb number 0 ≡ false). absurd (not-both (rw t at f)))
         (bool-cases (eqb number 0))
 
-last-covered : (p : List ℕ) (start pack choice : ℕ) (ps : List Pause) (x : Lasting) → supplyOf p start pack choice ps ≡ Lasts x → LastCovered p start pack choice ps x
+last-covered : (p : List ℕ) (start pack choice : ℕ) (out : Bool) (ps : List Pause) (x : Lasting) →
+    passedOn (verdictOf p) (judgedOf p start pack choice out ps) ≡ Lasts x → LastCovered p start pack choice ps x
 unfolding lastingOf
-last-covered p start pack choice ps x e =
-    let a = answers p start pack choice ps x e in
+last-covered p start pack choice out ps x e =
+    let a = answers p start pack choice out ps x e in
     let s = supplied (needOn choice p ps) start (stopDay p + 1 - start) pack in
     rw (← (a .lasting))
     (record {
@@ -106,7 +109,7 @@ last-covered p start pack choice ps x e =
     })
 
 -- a register that was reached: what it finds under a number is what the history says
-module _ {h : List Event} {r : List ℕ} (w : ReachedSlots h r) (n : ℕ) where
+module _ {h : List Event} {r : List ℕ} (w : Reached h r) (n : ℕ) where
   is-sound : sound r ≡ true
   is-sound = slot-promise .stays-sound h r w
 
@@ -139,6 +142,7 @@ demand2 =
     record {
       verdict = verdicts;
       lists = lists;
-      last-covered-day = last-covered;
+      last-covered-day = λ p start pack choice ps x e. last-covered p start pack choice (areOut ps) ps x e;
+      packed-last-covered-day = λ p start pack choice s x e. last-covered p start pack choice (not (eqb (length s % 8) 0) || areOut (pausesIn s)) (pausesIn s) x e;
       register-answers = λ h r w. record { not-held = state-none w; held = state-some w };
     }

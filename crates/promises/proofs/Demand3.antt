@@ -1,6 +1,6 @@
 -- A term of demand 3. Assumes nothing.
-use Prim.Native.Nat.{ℕ, _+_, _-_, _≤_, _<_}
-use mathlib.Core.Bool.{true, false}
+use Prim.Native.Nat.{ℕ, _+_, _-_, _%_, _≤_, _<_}
+use mathlib.Core.Bool.{Bool, true, false, not, _||_}
 use mathlib.Core.List.{List}
 use mathlib.Core.Logic.{⊎-elim}
 use mathlib.Core.Path.{_≡_, refl}
@@ -11,6 +11,8 @@ use lib.Seq.{take-at}
 use borrow.Author.Tests.{eqb-true, eqb-false, eq-eqb, ltb-true, ltb-false}
 use Rattle.below.proofs.Tests.{bool-cases, true-not-false}
 use Rattle.day.specs.Days.{lastNumber}
+use Rattle.pause.specs.Pauses.{areOut, pausesIn}
+use Rattle.pause.specs.declared.Pause.{Pause}
 use Rattle.register.proofs.LawDone.{broken-number}
 use Rattle.register.proofs.Promise.{slot-promise}
 use Rattle.split.proofs.Days.{part-doses}
@@ -21,12 +23,14 @@ use Rattle.split.specs.declared.Parted.the-variants.{Parts}
 use Rattle.supply.proofs.Covering.{supplied}
 use Rattle.supply.proofs.Refusing.{stop-day-in}
 use Rattle.supply.specs.Need.{needOn, stopDay, covered}
-use Rattle.supply.specs.Supply.{lastingOf}
+use Rattle.supply.specs.Supply.{lastingOf, judgedOf, passedOn}
+use Rattle.supply.specs.declared.Lasting.{Lasting}
+use Rattle.supply.specs.declared.Supply.the-variants.{Lasts}
 use Rattle.verdict.proofs.Exactly.{accepted-only}
 use Rattle.verdict.specs.Verdict.{verdictOf}
 use Rattle.verdict.specs.declared.Answer.{Answer}
 use Rattle.verdict.specs.declared.Answer.the-variants.{Accepted, Broken}
-use Rattle.promises.specs.Demand3.{Splitting, Packing, Demand3}
+use Rattle.promises.specs.Demand3.{Splitting, Covers, Demand3}
 use Rattle.promises.proofs.Demand2.{answers}
 
 -- a split that is not refused
@@ -59,10 +63,11 @@ splitting p fixed need bytes e d l =
     )
 
 -- how far a pack goes
-packing : Packing
-unfolding lastingOf needOn
-packing p start pack choice ps x e =
-    let a = answers p start pack choice ps x e in
+covers : (p : List ℕ) (start pack choice : ℕ) (out : Bool) (ps : List Pause) (x : Lasting) →
+    passedOn (verdictOf p) (judgedOf p start pack choice out ps) ≡ Lasts x → Covers p start pack choice ps x
+unfolding lastingOf
+covers p start pack choice out ps x e =
+    let a = answers p start pack choice out ps x e in
     let k = stopDay p + 1 - start in
     let s = supplied (needOn choice p ps) start k pack in
     let n = covered (needOn choice p ps) start k pack in
@@ -104,4 +109,10 @@ packing p start pack choice ps x e =
     (bool-cases (ltb n k)))
 
 pub demand3 : Demand3
-demand3 = record { register = slot-promise; splitting = splitting; packing = packing }
+demand3 =
+    record {
+      register = slot-promise;
+      splitting = splitting;
+      packing = λ p start pack choice ps x e. covers p start pack choice (areOut ps) ps x e;
+      packed-packing = λ p start pack choice s x e. covers p start pack choice (not (eqb (length s % 8) 0) || areOut (pausesIn s)) (pausesIn s) x e;
+    }

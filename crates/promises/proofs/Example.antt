@@ -8,7 +8,7 @@ use lib.Dec.{leb}
 use lib.ListN.{length}
 use borrow.Author.Tests.{ne-eqb, le-ltb, le-leb}
 use Rattle.below.specs.Below.{firstFrom, firstBelow, anyBelow, countBelow, sumBelow, largestBelow}
-use Rattle.below.specs.Lists.{listBelow, joinBelow, joinOver, keep}
+use Rattle.below.specs.Lists.{listBelow, joinBelow, joinOver, keep, Every, Every.none, Every.more}
 use Rattle.block.proofs.Numbers.{AreBytes}
 use Rattle.block.specs.Bytes.{numberAt, bytesOf, put}
 use Rattle.block.specs.Sums.{sealed}
@@ -16,17 +16,17 @@ use Rattle.day.specs.Calendar.{isLeap, months, before, yearStart, numberOf}
 use Rattle.day.specs.Days.{isNoSpan}
 use Rattle.form.proofs.Formed.{Formed}
 use Rattle.layout.proofs.Every.{every-map, every-append}
-use Rattle.layout.specs.Fits.{Every, Every.none, Every.more, HeadFits, HeadRanged}
-use Rattle.layout.specs.Layout.{filled, headBytes, periodStart, doseBytes, periodBlock, bodyOf, laidOut}
+use Rattle.layout.specs.code.Fits.{HeadFits, HeadRanged}
+use Rattle.layout.specs.Layout.{filled, headBytes, periodStart, periodBlock, bodyOf, laidOut}
 use Rattle.layout.specs.Reading.{headerAt, dosesAt}
 use Rattle.period.specs.Doses.{doseBreaks, tooMuch}
 use Rattle.period.specs.Period.{aheadOf, limitOf, periodBreaks}
-use Rattle.plan.specs.Fields.{doseOf}
+use Rattle.plan.specs.Fields.{doseOf, doseBytes}
 use Rattle.plan.specs.Periods.{blockAt, moreOf, dosesOf, doseIn, hasUnmarked, hasMarked, classOf}
 use Rattle.plan.specs.declared.Dose.{Dose}
 use Rattle.split.specs.Parts.{nextDosed, sharedIn, behind, broughtBy, partOf}
-use Rattle.verdict.specs.Coverage.{bare, sharesWith, shares, meetsAt, meets, holeAt}
-use Rattle.verdict.specs.Groups.{isMember, holeAfter}
+use Rattle.verdict.specs.Coverage.{bare, sharesWith, shares, meetsAt, meets, holeAt, isMember}
+use Rattle.verdict.specs.code.Groups.{holeAfter}
 use Rattle.verdict.specs.Verdict.{planLimit, breaks, refusalOf}
 use Rattle.promises.specs.Demand2.{IsAccepted}
 use Rattle.promises.specs.Example.{december, dose, four, two, period, mixedHead, mixedPeriods, mixedPlan, lineOf, line, Example}

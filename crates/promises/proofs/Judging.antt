@@ -17,8 +17,8 @@ use Rattle.refusal.specs.Refusals.{ruleAt}
 use Rattle.verdict.proofs.DayAfter.{hole-after}
 use Rattle.verdict.proofs.Lowest.{Clear, row-17, formed-clear, broken-is, accepted-is}
 use Rattle.verdict.specs.Coverage.{hole, holes}
-use Rattle.verdict.specs.Groups.{holeAfter}
-use Rattle.verdict.specs.Ready.{Dated}
+use Rattle.verdict.specs.code.Groups.{holeAfter}
+use Rattle.verdict.specs.code.Ready.{Dated}
 use Rattle.verdict.specs.Verdict.{planLimit, breaks, verdictOf}
 use Rattle.verdict.specs.declared.Answer.the-variants.{Accepted, Broken}
 use Rattle.verdict.specs.declared.Group.the-variants.{All, Fixed, Need}

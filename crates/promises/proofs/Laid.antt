@@ -14,8 +14,9 @@ use Rattle.layout.proofs.Blocks.{length-laid}
 use Rattle.layout.proofs.Bytes.{laid-bytes}
 use Rattle.layout.proofs.Every.{every-map}
 use Rattle.layout.proofs.Formed.{laid-right}
-use Rattle.layout.specs.Fits.{Every, Every.none, Every.more, HeadFits, HeadRanged, DoseFits, DoseRanged, WrittenFits, WrittenRanged}
-use Rattle.layout.specs.declared.Head.{Head}
+use Rattle.below.specs.Lists.{Every, Every.none, Every.more}
+use Rattle.layout.specs.code.Fits.{HeadFits, HeadRanged, DoseFits, DoseRanged, WrittenFits, WrittenRanged}
+use Rattle.plan.specs.declared.Head.{Head}
 use Rattle.layout.specs.Layout.{Written, bodyOf, laidOut}
 use Rattle.plan.specs.declared.Dose.{Dose}
 use Rattle.verdict.specs.Verdict.{planLimit}

@@ -6,13 +6,12 @@ use mathlib.Core.Path.{_≡_, refl, sym, ap, _∙_}
 use native.Mathlib.Omega.{arith}
 use lib.ListN.{length, length-replicate}
 use Rattle.below.specs.Below.{sumBelow}
-use Rattle.below.specs.Lists.{joinOver}
+use Rattle.below.specs.Lists.{joinOver, Every.none, Every.more}
 use Rattle.block.proofs.Numbers.{AreBytes}
 use Rattle.block.specs.Bytes.{numberAt, bytesOf, put}
 use Rattle.block.specs.Sums.{grown, summed as summing, sumsOf, sealed}
 use Rattle.day.specs.Calendar.{isLeap, months, before, yearStart, isDate, numberOf}
 use Rattle.layout.proofs.Blocks.{byte-zeros}
-use Rattle.layout.specs.Fits.{Every.none, Every.more}
 use Rattle.layout.specs.Layout.{filled, headBytes, laidOut}
 use Rattle.plan.specs.Fields.{planNumberOf, revisionOf}
 use Rattle.register.proofs.LawRevision as law

@@ -18,7 +18,8 @@ use Rattle.register.proofs.LawRevision.{good-next, cleared-free, submit-new, su
 use Rattle.register.proofs.Own.{accepted-whole, plan-back, first-back, second-back}
 use Rattle.register.proofs.Reached.{Good, answered-done, release-gives}
 use Rattle.register.specs.History.{isOk}
-use Rattle.register.specs.Reached.{eventOf, givenBy, slotCalls}
+use Rattle.register.specs.Promise.{givenBy}
+use Rattle.register.specs.Reached.{seen}
 use Rattle.register.specs.Runs.{numbersOf}
 use Rattle.register.specs.Slots.{slotsOf, firstSigner, secondSigner, planIn, slotBytes, freeAt, slotUnder}
 use Rattle.register.specs.Sound.{isAccepted}
@@ -63,7 +64,7 @@ module _ (r p : List ℕ) (g : Good r) (e : isAccepted (verdictOf p) ≡ true) (
       let second : secondSigner (slotUnder r n) ≡ b = ap secondSigner (h .1) ∙ second-back p a b b-fits in
       release-done r n room (record { sound-was = g .is-sound; long = long; held = h .0; second = rw second (ne-eqb b 0 b-somebody) })
 
-  gives-it : givenBy slotCalls r n room ≡ p
+  gives-it : givenBy r n room ≡ p
   gives-it =
       let h = some-held r n (slotBytes p a b) f in
       release-gives r n room release-two ∙ ap planIn (h .1) ∙ plan-back p a b (accepted-whole p e)
@@ -127,7 +128,7 @@ module _ (p : List ℕ) (p-bytes : AreBytes p) (e : isAccepted (verdictOf p) ≡
   not-refused : isDone (refusedBy r4 (release (planNumberOf p) room)) ≡ true
   not-refused = let w = way in release-two r4 p (w .g4) e (planNumberOf p) a b b-somebody b-fits room long (w .f4)
 
-  pub released-ok : isOk (eventOf slotCalls r4 (release (planNumberOf p) room)) ≡ true
+  pub released-ok : isOk (seen r4 (release (planNumberOf p) room)) ≡ true
   released-ok = answered-done r4 (release (planNumberOf p) room) ∙ not-refused
 
   -- all calls answer 0
@@ -141,5 +142,5 @@ module _ (p : List ℕ) (p-bytes : AreBytes p) (e : isAccepted (verdictOf p) ≡
       (number-last r4 (release (planNumberOf p) room) 0 (eqb-true _ _ released-ok)))))
 
   -- and the last gives the plan
-  pub released-plan : givenBy slotCalls r4 (planNumberOf p) room ≡ p
+  pub released-plan : givenBy r4 (planNumberOf p) room ≡ p
   released-plan = let w = way in gives-it r4 p (w .g4) e (planNumberOf p) a b b-somebody b-fits room long (w .f4)

@@ -29,13 +29,14 @@ use Rattle.register.proofs.Own.{accepted-whole, first-back, length-slot-bytes}
 use Rattle.register.proofs.Update.{slot-here}
 use Rattle.register.specs.Slots.{slotAt, firstSigner, slotBytes, withSlot, heldAt, isHeld, slotUnder}
 use Rattle.register.specs.Steps.{Call.clear, Call.submit, Call.sign, isDone, refusedBy, changed, after}
-use Rattle.split.specs.Days.{positionIn, dosesOnDay}
+use Rattle.doses.specs.Doses.{positionOf}
+use Rattle.split.specs.Days.{dosesOnDay}
 use Rattle.split.specs.Parts.{partBytes}
 use Rattle.split.specs.Split.{lengthsOf, splitOf, over, leftBy}
 use Rattle.split.specs.declared.Parted.the-variants.{Parts}
 use Rattle.supply.proofs.Covering.{Supplied, supplied-one, summed-le, summed-more}
 use Rattle.supply.specs.Need.{needOn, stopDay}
-use Rattle.supply.specs.Supply.{supplyOf, lastingIn}
+use Rattle.supply.specs.Supply.{supplyOf, packedSupplyOf, lastingIn}
 use Rattle.supply.specs.declared.Lasting.{Lasting}
 use Rattle.verdict.specs.Verdict.{verdictOf, refusalOf}
 use Rattle.promises.specs.Cases.{oneDaily, twoDaily, oneSlot, output, signedPlan, A, B}
@@ -59,6 +60,12 @@ one-last-day : (d : ℕ) → ((p : List ℕ) (start pack choice : ℕ) (ps : Lis
 one-last-day d h =
     let x : 8105 ≡ d = rw (P10 .0) at (h (plan oneDaily) 8077 50000 1 []) in
     let y : 8078 ≡ d = rw (P11 .0) at (h (plan twoDaily) 8077 500 1 []) in
+    omega arith
+
+one-packed-last-day : (d : ℕ) → ((p : List ℕ) (start pack choice : ℕ) (s : List ℕ) → lastingIn (packedSupplyOf p start pack choice s) .last ≡ d) → ⊥
+one-packed-last-day d h =
+    let x : 8105 ≡ d = rw (P10 .2) at (h (plan oneDaily) 8077 50000 1 []) in
+    let y : 8078 ≡ d = rw (P11 .2) at (h (plan twoDaily) 8077 500 1 []) in
     omega arith
 
 -- a day, and a date: P1 against P3
@@ -98,7 +105,6 @@ module _ (p : List ℕ) (start pack choice : ℕ) (ps : List Pause) where
       (same-or-not (x .reason) 1)
 
   is-supplied : {x : Lasting} → Covers p start pack choice ps x → Supplied (needOn choice p ps) start (stopDay p + 1 - start) pack (x .days) (x .rest)
-  unfolding needOn
   is-supplied {x} c =
       let need = needOn choice p ps in
       let to-the-end : start + x .days ≡ stopDay p + 1 → Supplied need start (stopDay p + 1 - start) pack (x .days) (x .rest) =
@@ -232,7 +238,7 @@ everySecond =
     }
 
 first-day-moved : length (dosesOnDay 6548 (aDayLater everySecond)) ≡ length (dosesOnDay 6548 everySecond) → ⊥
-unfolding everySecond dosesOnDay positionIn keep
+unfolding everySecond dosesOnDay positionOf keep
 first-day-moved e = omega (arith, e)
 
 pub shut-out : ShutOut
@@ -241,10 +247,12 @@ shut-out =
     record {
       refuses-plans = λ h. h _ (ap (λ (x : Refusal). x .number) (witnesses .accepted));
       refuses-supplies = λ h. h (plan oneDaily) 8077 50000 1 [] (rw (P10 .0) refl);
+      refuses-packed-supplies = λ h. h (plan oneDaily) 8077 50000 1 [] (rw (P10 .2) refl);
       refuses-splits = λ h. h bothMarks partRoom partRoom (witnesses .parted);
       refuses-releases = λ h. h (witnesses .released .1) 1 output (eqb-true _ _ (witnesses .released .3));
       one-verdict = one-verdict;
       one-last-day = one-last-day;
+      one-packed-last-day = one-packed-last-day;
       one-day = one-day;
       one-date = one-date;
       split-does-nothing = λ h. not-left false (h bothMarks partRoom partRoom);

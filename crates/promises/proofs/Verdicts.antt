@@ -8,21 +8,20 @@ use lib.Dec.{leb, ltb}
 use lib.ListN.{length}
 use borrow.Author.Tests.{ltb-true}
 use Rattle.below.specs.Below.{firstFrom, firstBelow, anyBelow, countBelow, sumBelow, largestBelow}
-use Rattle.below.specs.Lists.{listBelow, joinOver}
+use Rattle.below.specs.Lists.{listBelow, joinOver, Every, Every.none, Every.more}
 use Rattle.block.proofs.Numbers.{AreBytes}
 use Rattle.block.specs.Bytes.{numberAt, bytesOf, put}
 use Rattle.block.specs.Sums.{sealed}
 use Rattle.day.specs.Days.{openMark}
 use Rattle.form.proofs.Formed.{Formed}
-use Rattle.layout.specs.Fits.{Every, Every.none, Every.more}
-use Rattle.layout.specs.Layout.{Written, filled, headBytes, periodStart, doseBytes, periodBlock, bodyOf, laidOut}
+use Rattle.layout.specs.Layout.{Written, filled, headBytes, periodStart, periodBlock, bodyOf, laidOut}
 use Rattle.period.specs.Doses.{doseBreaks, tooMuch}
 use Rattle.period.specs.Period.{aheadOf, limitOf, periodBreaks}
-use Rattle.plan.specs.Fields.{doseOf}
+use Rattle.plan.specs.Fields.{doseOf, doseBytes}
 use Rattle.plan.specs.Periods.{blocksOf, blockAt, moreOf, dosesOf, doseIn, hasUnmarked, hasMarked, classOf}
 use Rattle.refusal.specs.Refusals.{ruleAt}
-use Rattle.verdict.specs.Coverage.{hole, holes, bare, sharesWith, shares, meetsAt, meets, holeAt}
-use Rattle.verdict.specs.Groups.{isMember, holeAfter}
+use Rattle.verdict.specs.Coverage.{hole, holes, bare, sharesWith, shares, meetsAt, meets, holeAt, isMember}
+use Rattle.verdict.specs.code.Groups.{holeAfter}
 use Rattle.verdict.specs.Verdict.{planLimit, breaks, verdictOf}
 use Rattle.verdict.specs.declared.Answer.the-variants.{Accepted, Broken}
 use Rattle.verdict.specs.declared.Group.the-variants.{All}

@@ -10,21 +10,22 @@ use Rattle.below.specs.Lists.{listBelow, pickBelow, joinBelow, joinOver, sumOve
 use Rattle.block.specs.Bytes.{numberAt, bytesOf, put}
 use Rattle.block.specs.Sums.{sealed}
 use Rattle.doses.specs.Doses.{positionOf, dosesOfPeriod, dosesOn}
-use Rattle.layout.specs.Layout.{filled, headBytes, periodStart, doseBytes, periodBlock, bodyOf, laidOut}
-use Rattle.plan.specs.Fields.{doseOf}
+use Rattle.layout.specs.Layout.{filled, headBytes, periodStart, periodBlock, bodyOf, laidOut}
+use Rattle.plan.specs.Fields.{doseOf, doseBytes}
 use Rattle.plan.specs.Periods.{blockAt, moreOf, dosesOf, doseIn, hasUnmarked, hasMarked, classOf}
 use Rattle.register.proofs.Promise.{begins}
 use Rattle.register.specs.History.{Event, isOk}
 use Rattle.register.specs.Runs.{numbersOf}
-use Rattle.register.specs.Reached.{eventOf, givenBy, slotCalls, Reached.called, ReachedSlots}
+use Rattle.register.specs.Promise.{givenBy}
+use Rattle.register.specs.Reached.{seen, Reached, Reached.called}
 use Rattle.register.specs.Steps.{Call.clear, Call.submit, Call.sign, Call.release, after}
 use Rattle.split.specs.Parts.{isOfPart, nextDosed, hasRun}
 use Rattle.split.specs.Split.{splitOf, refusalIn}
 use Rattle.supply.specs.Need.{needOn, stopDay, hasStop, covered}
 use Rattle.supply.specs.Supply.{lastingOf, refusedBy, judgedOf}
 use Rattle.supply.specs.declared.Supply.the-variants.{Lasts}
-use Rattle.pause.specs.Pauses.{isPaused, areOut}
-use Rattle.verdict.specs.Groups.{isMember}
+use Rattle.pause.specs.Pauses.{isPaused, areOutOf, areOut, packedIn, pausesIn}
+use Rattle.verdict.specs.Coverage.{isMember}
 use Rattle.verdict.specs.Verdict.{refusalOf}
 use Rattle.promises.specs.Cases.{twoDaily, oneSlot, output, signedPlan, A, B}
 use Rattle.promises.specs.Demand3.{fixedPart, needPart}
@@ -43,10 +44,11 @@ record Computed : Type 0 where
   fixed-doses : keep (isOfPart false) (dosesOn bothMarks 6548) ≡ unmarked 100 ∷ []
   need-doses : keep (isOfPart true) (dosesOn bothMarks 6548) ≡ marked 100 ∷ []
   calendar : judgedOf (plan twoDaily) 73047 500 2 (areOut []) [] ≡ Lasts (record { days = 2; last = 73048; rest = 100; reason = 3 })
+  packed-calendar : judgedOf (plan twoDaily) 73047 500 2 (areOut (pausesIn [])) (pausesIn []) ≡ Lasts (record { days = 2; last = 73048; rest = 100; reason = 3 })
 
 computed : Computed
-unfolding head unmarked marked daily fixed need mixed empty revision twoDaily signedPlan filled headBytes periodStart doseBytes periodBlock bodyOf laidOut numberAt bytesOf put sealed listBelow joinOver firstFrom firstBelow anyBelow sumBelow largestBelow doseOf blockAt moreOf dosesOf doseIn hasUnmarked hasMarked classOf pickBelow joinBelow sumOver positionOf dosesOfPeriod dosesOn isPaused areOut judgedOf refusedBy lastingOf needOn stopDay hasStop covered keep isMember nextDosed
-computed = record { run = refl; long = refl; fixed-doses = refl; need-doses = refl; calendar = refl }
+unfolding head unmarked marked daily fixed need mixed empty revision twoDaily signedPlan filled headBytes periodStart doseBytes periodBlock bodyOf laidOut numberAt bytesOf put sealed listBelow joinOver firstFrom firstBelow anyBelow sumBelow largestBelow doseOf blockAt moreOf dosesOf doseIn hasUnmarked hasMarked classOf pickBelow joinBelow sumOver positionOf dosesOfPeriod dosesOn isPaused packedIn areOutOf judgedOf refusedBy lastingOf needOn stopDay hasStop covered keep isMember nextDosed
+computed = record { run = refl; long = refl; fixed-doses = refl; need-doses = refl; calendar = refl; packed-calendar = refl }
 
 -- the split of the plan with both marks
 pub room-long : length partRoom ≡ 32768
@@ -75,19 +77,19 @@ module _ where
       (released-numbers p four-bytes four-ok A B (λ e. omega arith) (omega arith) (λ e. omega arith) (omega arith) (λ e. omega arith)
       oneSlot slot-bytes slot-long output output-long)
 
-  gives : givenBy slotCalls last 1 output ≡ p
+  gives : givenBy last 1 output ≡ p
   gives =
       rw (numbered .four) at
       (released-plan p four-bytes four-ok A B (λ e. omega arith) (omega arith) (λ e. omega arith) (omega arith) (λ e. omega arith)
       oneSlot slot-bytes slot-long output output-long)
 
-  is-ok : isOk (eventOf slotCalls last (release 1 output)) ≡ true
+  is-ok : isOk (seen last (release 1 output)) ≡ true
   is-ok =
       rw (numbered .four) at
       (released-ok p four-bytes four-ok A B (λ e. omega arith) (omega arith) (λ e. omega arith) (omega arith) (λ e. omega arith)
       oneSlot slot-bytes slot-long output output-long)
 
-  reached : (h : List Event) × ReachedSlots h last
+  reached : (h : List Event) × Reached h last
   reached = (_, called (sign B p) (omega arith) (called (sign A p) (omega arith) (called (submit p) four-bytes (begins oneSlot slot-bytes slot-long))))
 
 pub witnesses : Witnesses
@@ -106,4 +108,7 @@ witnesses =
       needs-more = P11 .1;
       dosage-ends = P10 .1;
       calendar-ends = rw two-accepted (computed .calendar);
+      packed-needs-more = P11 .3;
+      packed-dosage-ends = P10 .3;
+      packed-calendar-ends = rw two-accepted (computed .packed-calendar);
     }

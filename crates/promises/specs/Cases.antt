@@ -1,6 +1,6 @@
 -- Document 01, "Worked on paper": "The P cases are proved as a single statement over a list."
 use Prim.Native.Nat.{ℕ}
-use mathlib.Core.List.{List, [], _∷_}
+use mathlib.Core.List.{List, [], _∷_, _++_}
 use mathlib.Core.Path.{_≡_}
 use lib.ListN.{replicate}
 use Rattle.block.specs.Bytes.{bytesOf, put}
@@ -9,12 +9,12 @@ use Rattle.day.specs.Days.{openMark, namedBy, Shows}
 use Rattle.day.specs.declared.Date.{Date}
 use Rattle.day.specs.declared.Named.the-variants.{On}
 use Rattle.day.specs.declared.Shown.the-variants.{As}
-use Rattle.layout.specs.Fits.{Every}
+use Rattle.below.specs.Lists.{Every}
 use Rattle.layout.specs.Layout.{Written}
 use Rattle.pause.specs.declared.Pause.{Pause}
 use Rattle.register.specs.Runs.{numbersOf}
 use Rattle.register.specs.Steps.{Call, Call.clear, Call.submit, Call.sign, Call.release}
-use Rattle.supply.specs.Supply.{supplyOf}
+use Rattle.supply.specs.Supply.{supplyOf, packedSupplyOf}
 use Rattle.supply.specs.declared.Lasting.{Lasting}
 use Rattle.supply.specs.declared.Supply.the-variants.{Lasts}
 use Rattle.verdict.specs.Verdict.{verdictOf, refusalOf}
@@ -28,8 +28,8 @@ pub data Case : Type 0 where
   summed : ℕ → ℕ → ℕ → ℕ → Case
   -- the periods of a plan; number and place of its verdict
   judged : List Written → ℕ → ℕ → Case
-  -- the periods of a plan, the start, the pack, the pauses; days, last covered day, rest and reason
-  supplied : List Written → ℕ → ℕ → List Pause → Lasting → Case
+  -- the periods of a plan, the start, the pack, the pauses, and the same in 8 bytes each; days, last covered day, rest and reason
+  supplied : List Written → ℕ → ℕ → List Pause → List ℕ → Lasting → Case
   -- calls on a register of one slot, and the numbers that they answer
   called : List Call → List ℕ → Case
 
@@ -44,15 +44,19 @@ oneSlot = replicate 16896 0
 unfoldable pub output : List ℕ
 output = replicate 16384 0
 
--- the definitions give the paper's answer: dates both ways, and supply by either choice, since the amounts are single
+-- the definitions give the paper's answer: dates both ways; supply by either choice, since the amounts are single, with a list of
+-- pauses and in the call that the screen makes
 abbrev pub Holds : Case → Type 0
 Holds (dated y m d n) =
     let date : Date = record { year = y; month = m; day = d } in
     (namedBy date ≡ On (record { number = n })) × Shows n (As date)
 Holds (summed w0 w1 a b) = sumsOf (twoWords w0 w1) ≡ record { first = a; second = b }
 Holds (judged ws k b) = refusalOf (verdictOf (plan ws)) ≡ record { number = k; place = b }
-Holds (supplied ws start pack ps x) =
-    (supplyOf (plan ws) start pack 1 ps ≡ Lasts x) × (supplyOf (plan ws) start pack 2 ps ≡ Lasts x)
+Holds (supplied ws start pack ps s x) =
+    (supplyOf (plan ws) start pack 1 ps ≡ Lasts x)
+    × (supplyOf (plan ws) start pack 2 ps ≡ Lasts x)
+    × (packedSupplyOf (plan ws) start pack 1 s ≡ Lasts x)
+    × (packedSupplyOf (plan ws) start pack 2 s ≡ Lasts x)
 Holds (called cs ns) = numbersOf oneSlot cs ≡ ns
 
 -- "1.00 daily to 8105"; "2.00 daily, open"
@@ -94,13 +98,13 @@ cases =
     -- "P9 fixed 6547-6550, mixed 6548-6551: 16."
     judged (fixed 6547 6550 ∷ mixed 6548 6551 ∷ []) 16 2 ∷
     -- "P10 1.00 daily to 8105, start 8077, pack 500.00: 29 days, 8105, rest 471.00, reason 2."
-    supplied oneDaily 8077 50000 [] (record { days = 29; last = 8105; rest = 47100; reason = 2 }) ∷
+    supplied oneDaily 8077 50000 [] [] (record { days = 29; last = 8105; rest = 47100; reason = 2 }) ∷
     -- "P11 2.00 daily, open, start 8077, pack 5.00: 2 days, 8078, rest 1.00, reason 1."
-    supplied twoDaily 8077 500 [] (record { days = 2; last = 8078; rest = 100; reason = 1 }) ∷
+    supplied twoDaily 8077 500 [] [] (record { days = 2; last = 8078; rest = 100; reason = 1 }) ∷
     -- "P12 pack 1.99: 0 days, rest 1.99."
-    supplied twoDaily 8077 199 [] (record { days = 0; last = openMark; rest = 199; reason = 1 }) ∷
+    supplied twoDaily 8077 199 [] [] (record { days = 0; last = openMark; rest = 199; reason = 1 }) ∷
     -- "P13 as P11, pause 8078-8080: 5 days, 8081, rest 1.00."
-    supplied twoDaily 8077 500 (record { first = 8078; last = 8080 } ∷ [])
+    supplied twoDaily 8077 500 (record { first = 8078; last = 8080 } ∷ []) (bytesOf 4 8078 ++ bytesOf 4 8080)
     (record { days = 5; last = 8081; rest = 100; reason = 1 }) ∷
     -- "P14 submit revision 4, A signs, submit 5, B signs it, release: 38."
     called

@@ -1,7 +1,7 @@
--- Demand 1: "Every function takes every input and ends. No caller need have checked anything. A refusal gives its number in the
--- set order, and changes no lent byte."
--- That a function takes every input and ends is proved of each function with its contract, and no public one has a `requires`. Here
--- stands the last sentence, for each call of document 01.
+-- Demand 1: "It takes every input and comes to an end. No caller need have checked anything. A refusal gives its number from document
+-- 01 in the order set there, and the register and the output buffers stay unchanged."
+-- That a function takes every input and comes to an end is proved of each function with its contract, and no public one has a
+-- `requires`. Here stands the last sentence, for each call of document 01.
 use Prim.Native.Nat.{ℕ, _%_, _<_}
 use mathlib.Core.Bool.{Bool, true, false, cond, not, _||_}
 use mathlib.Core.List.{List, [], _∷_}
@@ -42,7 +42,7 @@ verdictIn (state n) = alone 0
 
 -- the calls of the library
 pub record Calls : Type 0 where
-  -- "A refusal gives its number in the set order"
+  -- "A refusal gives its number from document 01 in the order set there"
   pub verdict-order : (p : List ℕ) → refusalOf (verdictOf p) .number ≡ firstGiven (isBroken p) rules
   pub supply-order : (p : List ℕ) (start pack choice : ℕ) (ps : List Pause) →
       supplyRefusal (supplyOf p start pack choice ps) .number ≡ firstGiven (givenBySupply p start pack choice (areOut ps)) supplyOrder
@@ -53,49 +53,52 @@ pub record Calls : Type 0 where
       Placed (refusalOf (verdictOf p)) (supplyRefusal (supplyOf p start pack choice ps))
   pub split-place : (p fixed need : List ℕ) → Placed (refusalOf (verdictOf p)) (refusalIn (splitOf p fixed need))
   pub register-place : (r : List ℕ) (c : Call) → Placed (verdictIn c) (answered r c .refusal)
-  -- "and changes no lent byte": split's two buffers, the register, and the output buffer of a release
+  -- "and the register and the output buffers stay unchanged.": split's two buffers, the register, and the buffer of a release
   pub split-keeps : (p fixed need : List ℕ) → Refused (refusalIn (splitOf p fixed need)) →
       (leftBy (splitOf p fixed need) (partBytes false p) fixed ≡ fixed) × (leftBy (splitOf p fixed need) (partBytes true p) need ≡ need)
   pub register-keeps : (r : List ℕ) (c : Call) → Refused (answered r c .refusal) → after r c ≡ r
   pub release-keeps : (r : List ℕ) (n : ℕ) (room : List ℕ) → Refused (answered r (release n room) .refusal) → roomAfter r n room ≡ room
 
--- a call of the C screen: what it returns is the code of a refusal, in the set order, and where that is one every lent byte is kept
-pub record Screened (code : ℕ) (given : ℕ → Bool) (order : List ℕ) (Kept : Type 0) : Type 0 where
+-- a call of the C screen, v being the verdict on its plan: what it returns is the code of a refusal, whose number is the first given
+-- in the set order and whose place is the verdict's or 255; and where it is refused every lent byte is kept
+pub record Screened (v : Refusal) (code : ℕ) (given : ℕ → Bool) (order : List ℕ) (Kept : Type 0) : Type 0 where
   pub refusal : Refusal
+  -- "Both return the number plus 256 times the place."
   pub code-is : code ≡ codeOf refusal
   pub in-order : refusal .number ≡ firstGiven given order
+  pub place : Placed v refusal
   pub keeps : Refused refusal → Kept
 
 -- the calls of the screen, each by what its contract says that it returns and leaves
 pub record ScreenCalls : Type 0 where
-  pub verdict : (p : List ℕ) → Screened (codeOfAnswer (verdictOf p)) (isBroken p) rules (Unit {0})
+  pub verdict : (p : List ℕ) → Screened (refusalOf (verdictOf p)) (codeOfAnswer (verdictOf p)) (isBroken p) rules (Unit {0})
   pub supply : (p : List ℕ) (start pack choice : ℕ) (s out : List ℕ) →
       let x = packedSupplyOf p start pack choice s in
-      Screened (cond (tooShort 32 out) code26 (supplyCode x))
+      Screened (refusalOf (verdictOf p)) (cond (tooShort 32 out) code26 (supplyCode x))
       (givenByScreen 32 out (givenBySupply p start pack choice (not (eqb (length s % 8) 0) || areOut (pausesIn s)))) (26 ∷ supplyOrder)
       (cond (tooShort 32 out) out (supplyOut out x) ≡ out)
   pub split : (p fixed need out : List ℕ) →
       let x = splitOf p fixed need in
-      Screened (cond (tooShort 16 out) code26 (splitCode x)) (givenByScreen 16 out (givenBySplit p fixed need)) (26 ∷ splitOrder)
+      Screened (refusalOf (verdictOf p)) (cond (tooShort 16 out) code26 (splitCode x)) (givenByScreen 16 out (givenBySplit p fixed need)) (26 ∷ splitOrder)
       ((cond (tooShort 16 out) fixed (leftBy x (partBytes false p) fixed) ≡ fixed)
       × (cond (tooShort 16 out) need (leftBy x (partBytes true p) need) ≡ need)
       × (cond (tooShort 16 out) out (splitOut out x) ≡ out))
   pub show-day : (fixed need : List ℕ) (list day : ℕ) (out : List ℕ) →
-      Screened (cond (tooShort 16 out) code26 doneCode) (givenByScreen 16 out (λ k. false)) (26 ∷ [])
+      Screened (alone 0) (cond (tooShort 16 out) code26 doneCode) (givenByScreen 16 out (λ k. false)) (26 ∷ [])
       (cond (tooShort 16 out) out (stretchOut out (stretchOf fixed need list day)) ≡ out)
   pub day-sums : (p : List ℕ) (day : ℕ) (out : List ℕ) →
-      Screened (cond (tooShort 32 out) code26 (codeOfAnswer (verdictOf p))) (givenByScreen 32 out (isBroken p)) (26 ∷ rules)
+      Screened (refusalOf (verdictOf p)) (cond (tooShort 32 out) code26 (codeOfAnswer (verdictOf p))) (givenByScreen 32 out (isBroken p)) (26 ∷ rules)
       (cond (tooShort 32 out) out (sumsOut out (verdictOf p) (daySums p day)) ≡ out)
   -- clear, submit, sign and drop
-  pub register : (r : List ℕ) (c : Call) → Screened (codeOf (answered r c .refusal)) (givenByCall r c) (orderOf c) (after r c ≡ r)
+  pub register : (r : List ℕ) (c : Call) → Screened (verdictIn c) (codeOf (answered r c .refusal)) (givenByCall r c) (orderOf c) (after r c ≡ r)
   pub releases : (r : List ℕ) (n : ℕ) (room out : List ℕ) →
       let x = answered r (release n room) in
-      Screened (cond (tooShort 8 out) code26 (codeOf (x .refusal))) (givenByScreen 8 out (givenByCall r (release n room)))
+      Screened (alone 0) (cond (tooShort 8 out) code26 (codeOf (x .refusal))) (givenByScreen 8 out (givenByCall r (release n room)))
       (26 ∷ orderOf (release n room))
       ((cond (tooShort 8 out) room (roomAfter r n room) ≡ room) × (cond (tooShort 8 out) out (releasedOut out x) ≡ out))
   pub states : (r : List ℕ) (n : ℕ) (out : List ℕ) →
       let x = answered r (state n) in
-      Screened (cond (tooShort 16 out) code26 (codeOf (x .refusal))) (givenByScreen 16 out (givenByCall r (state n)))
+      Screened (alone 0) (cond (tooShort 16 out) code26 (codeOf (x .refusal))) (givenByScreen 16 out (givenByCall r (state n)))
       (26 ∷ orderOf (state n))
       (cond (tooShort 16 out) out (stateOut out x) ≡ out)
 

@@ -1,5 +1,5 @@
--- Demand 2: "Verdict, lists, last covered day and register answers are exactly those of document 01. A plan is accepted exactly
--- when no rule is broken."
+-- Demand 2: "The verdict, both lists, the last covered day and every register answer are those of document 01, which condenses the
+-- FMK pages. A plan is accepted exactly when no rule is broken, and otherwise the first broken rule is named."
 -- That each function's answer is the one of its definition in specs/ is its contract. Here stands what those definitions come to.
 use Prim.Native.Nat.{ℕ, _+_, _-_, _≤_, _<_}
 use mathlib.Core.Bool.{Bool, true, false, cond}
@@ -11,16 +11,17 @@ use lib.ListN.{length, getD}
 use Rattle.day.specs.Days.{closedDay, openMark}
 use Rattle.layout.specs.Layout.{Written}
 use Rattle.layout.specs.Reading.{headOf, periodsOf}
+use Rattle.pause.specs.Pauses.{pausesIn}
 use Rattle.pause.specs.declared.Pause.{Pause}
 use Rattle.plan.specs.Fields.{revisionOf}
 use Rattle.plan.specs.Periods.{blocksOf}
 use Rattle.refusal.specs.Refusals.{alone, hasNoPlace, nowhere}
 use Rattle.register.specs.History.{Event, latest, signatures}
-use Rattle.register.specs.Reached.{IsBytes, ReachedSlots}
+use Rattle.register.specs.Reached.{IsBytes, Reached}
 use Rattle.register.specs.Steps.{Call.state, done, answered, nothingBut}
 use Rattle.split.specs.Parts.{groupOf, isDosedIn, runFirst, runLast, hasRun, partOf, partBytes}
 use Rattle.supply.specs.Need.{needOn, stopDay, summed}
-use Rattle.supply.specs.Supply.{supplyOf}
+use Rattle.supply.specs.Supply.{supplyOf, packedSupplyOf}
 use Rattle.supply.specs.declared.Lasting.{Lasting}
 use Rattle.supply.specs.declared.Supply.the-variants.{Lasts}
 use Rattle.verdict.specs.Coverage.{meets, holeAt}
@@ -41,10 +42,10 @@ pub record IsLowest (p : List ℕ) (k b : ℕ) : Type 0 where
   pub at-block : hasNoPlace k ≡ false → (b < blocksOf p) × (breaks p k b ≡ true) × ((c : ℕ) → c < b → breaks p k c ≡ false)
 
 pub record Verdicts : Type 0 where
-  -- "A plan is accepted exactly when no rule is broken."
+  -- "A plan is accepted exactly when no rule is broken"
   pub accepted-where : (p : List ℕ) → ((k : ℕ) → k < 18 → isBroken p k ≡ false) → IsAccepted p
   pub accepted-only : (p : List ℕ) → IsAccepted p → (k : ℕ) → k < 18 → isBroken p k ≡ false
-  -- "The answer is a number and a place: the lowest broken number, then the lowest block that breaks it."
+  -- "and otherwise the first broken rule is named.": "the lowest broken number, then the lowest block that breaks it"
   pub broken-where : (p : List ℕ) (k b : ℕ) → IsLowest p k b → refusalOf (verdictOf p) ≡ record { number = k; place = b }
   pub broken-only : (p : List ℕ) → (refusalOf (verdictOf p) .number ≡ 0 → ⊥) →
       IsLowest p (refusalOf (verdictOf p) .number) (refusalOf (verdictOf p) .place)
@@ -73,7 +74,7 @@ pub record LastCovered (p : List ℕ) (start pack choice : ℕ) (ps : List Pause
   -- "last covered day (open mark if none)"
   pub last-is : x .last ≡ cond (eqb (x .days) 0) openMark (start + x .days - 1)
 
--- "register answers", by the calls h on a cleared register and their answers alone: the plan under n is the latest accepted one, and
+-- "every register answer", by the calls h on a cleared register and their answers alone: the plan under n is the latest accepted one, and
 -- its signers are those who have signed since
 pub record Registers (h : List Event) (r : List ℕ) : Type 0 where
   -- "33 number not held"
@@ -83,8 +84,14 @@ pub record Registers (h : List Event) (r : List ℕ) : Type 0 where
       answered r (state n) ≡ record { refusal = done; length = 0; revision = revisionOf p; signers = length (signatures n h) }
 
 pub record Demand2 : Type 0 where
+  -- "The verdict": "A plan is accepted exactly when no rule is broken, and otherwise the first broken rule is named."
   pub verdict : Verdicts
+  -- "both lists"
   pub lists : (p : List ℕ) (part : Bool) → IsBytes p → IsAccepted p → Lists p part
+  -- "the last covered day", of supply with a lent list of pauses, and of the call that the screen makes, with 8 bytes for each
   pub last-covered-day : (p : List ℕ) (start pack choice : ℕ) (ps : List Pause) (x : Lasting) →
       supplyOf p start pack choice ps ≡ Lasts x → LastCovered p start pack choice ps x
-  pub register-answers : (h : List Event) (r : List ℕ) → ReachedSlots h r → Registers h r
+  pub packed-last-covered-day : (p : List ℕ) (start pack choice : ℕ) (s : List ℕ) (x : Lasting) →
+      packedSupplyOf p start pack choice s ≡ Lasts x → LastCovered p start pack choice (pausesIn s) x
+  -- "and every register answer"
+  pub register-answers : (h : List Event) (r : List ℕ) → Reached h r → Registers h r

@@ -1,24 +1,26 @@
--- Demand 3: "From a cleared register, whatever calls are made in whatever order, a released plan is byte for byte the latest one
--- accepted under its number since it was last dropped or cleared, and two different signers have since signed exactly those
--- bytes. Splitting loses and invents no dose on any day. Pack = doses of the covered days + rest, and the next day needs more than
--- the rest, or the dosage or calendar ends."
+-- Demand 3: "Start from a cleared register that only our calls touch, and make calls in every order. A released plan is then, byte
+-- for byte, the latest one accepted under that number since it was last dropped or cleared, and two different signers have since
+-- each signed exactly those bytes. Splitting loses and invents nothing: on each day from 2000 to 2199, each list holds exactly that
+-- day's doses of its mark, as often as the plan does, with time and amounts. Wherever supply isn't refused, the pack equals the
+-- fixed doses of all covered days at the chosen amount, paused days counting nothing, plus the rest, and the next day needs more
+-- than the rest, or the dosage or the calendar ends there."
 use Prim.Native.Nat.{ℕ, _+_, _≤_, _<_}
-use mathlib.Core.Bool.{true, false, cond}
+use mathlib.Core.Bool.{true, false}
 use mathlib.Core.List.{List}
 use mathlib.Core.Path.{_≡_}
 use lib.ListN.{take}
 use Rattle.below.specs.Below.{sumBelow}
-use Rattle.below.specs.Lists.{keep, sumOver}
+use Rattle.below.specs.Lists.{keep}
 use Rattle.day.specs.Days.{lastNumber}
 use Rattle.doses.specs.Doses.{dosesOn}
-use Rattle.pause.specs.Pauses.{isPaused}
+use Rattle.pause.specs.Pauses.{pausesIn}
 use Rattle.pause.specs.declared.Pause.{Pause}
 use Rattle.register.specs.Promise.{SlotPromise}
 use Rattle.register.specs.Reached.{IsBytes}
 use Rattle.split.specs.Parts.{isOfPart, partBytes}
 use Rattle.split.specs.Split.{splitOf, refusalIn, lengthsIn, leftBy}
-use Rattle.supply.specs.Need.{chosen, stopDay}
-use Rattle.supply.specs.Supply.{supplyOf}
+use Rattle.supply.specs.Need.{needOn, stopDay}
+use Rattle.supply.specs.Supply.{supplyOf, packedSupplyOf}
 use Rattle.supply.specs.declared.Lasting.{Lasting}
 use Rattle.supply.specs.declared.Supply.the-variants.{Lasts}
 
@@ -29,38 +31,44 @@ fixedPart p fixed need = take (lengthsIn (splitOf p fixed need) .fixed) (leftBy 
 abbrev pub needPart : List ℕ → List ℕ → List ℕ → List ℕ
 needPart p fixed need = take (lengthsIn (splitOf p fixed need) .need) (leftBy (splitOf p fixed need) (partBytes true p) need)
 
--- "Splitting loses and invents no dose on any day": on each day from 2000 to 2199 the doses of the fixed part are the plan's
--- unmarked ones and those of the need part its marked ones, each with day number, time, mark and amounts, in their order. A lent
--- slice is always bytes (`IsBytes`)
+-- "Splitting loses and invents nothing: on each day from 2000 to 2199, each list holds exactly that day's doses of its mark, as often
+-- as the plan does, with time and amounts.": the doses of the fixed part are the plan's unmarked ones and those of the need part its
+-- marked ones, each with day number, time, mark and amounts, in their order. A lent slice is always bytes (`IsBytes`)
 abbrev pub Splitting : Type 0
 Splitting =
     (p fixed need : List ℕ) → IsBytes p → refusalIn (splitOf p fixed need) .number ≡ 0 → (d : ℕ) → d ≤ lastNumber →
     (dosesOn (fixedPart p fixed need) d ≡ keep (isOfPart false) (dosesOn p d))
     × (dosesOn (needPart p fixed need) d ≡ keep (isOfPart true) (dosesOn p d))
 
--- what day d takes of a pack, over document 01's doses of a day: "the sum of its unmarked amounts as chosen, 0 on a paused day"
-abbrev pub taken : ℕ → List ℕ → List Pause → ℕ → ℕ
-taken choice p ps d = cond (isPaused ps d) 0 (sumOver (chosen choice) (dosesOn p d))
-
+-- `needOn` is what a day needs, over document 01's doses of a day: "the sum of its unmarked amounts as chosen, 0 on a paused day"
 pub record Covers (p : List ℕ) (start pack choice : ℕ) (ps : List Pause) (x : Lasting) : Type 0 where
-  -- "Pack = doses of the covered days + rest"
-  pub sum : pack ≡ sumBelow (x .days) (λ i. taken choice p ps (start + i)) + x .rest
+  -- "the pack equals the fixed doses of all covered days at the chosen amount, paused days counting nothing, plus the rest"
+  pub sum : pack ≡ sumBelow (x .days) (λ i. needOn choice p ps (start + i)) + x .rest
   -- "and the next day needs more than the rest": reason 1
-  pub needs-more : x .reason ≡ 1 → (start + x .days ≤ stopDay p) × (x .rest < taken choice p ps (start + x .days))
-  -- "or the dosage": reason 2, the covered days end with the last day of any fixed or mixed period
+  pub needs-more : x .reason ≡ 1 → (start + x .days ≤ stopDay p) × (x .rest < needOn choice p ps (start + x .days))
+  -- "or the dosage .. ends there": reason 2, the covered days end with the last day of any fixed or mixed period
   pub dosage-ends : x .reason ≡ 2 → (start + x .days ≡ stopDay p + 1) × (stopDay p < lastNumber)
-  -- "or calendar ends": reason 3, that day is the calendar's last
+  -- "or the calendar ends there": reason 3, that day is the calendar's last
   pub calendar-ends : x .reason ≡ 3 → (start + x .days ≡ stopDay p + 1) × (stopDay p ≡ lastNumber)
   pub one-of-these : (1 ≤ x .reason) × (x .reason ≤ 3)
 
+-- "Wherever supply isn't refused": with a lent list of pauses
 abbrev pub Packing : Type 0
 Packing =
     (p : List ℕ) (start pack choice : ℕ) (ps : List Pause) (x : Lasting) →
     supplyOf p start pack choice ps ≡ Lasts x → Covers p start pack choice ps x
 
+-- and in the call that the screen makes, with 8 bytes for each
+abbrev pub PackedPacking : Type 0
+PackedPacking =
+    (p : List ℕ) (start pack choice : ℕ) (s : List ℕ) (x : Lasting) →
+    packedSupplyOf p start pack choice s ≡ Lasts x → Covers p start pack choice (pausesIn s) x
+
 pub record Demand3 : Type 0 where
-  -- "From a cleared register, whatever calls are made in whatever order, ..": register/specs/Promise.antt, with "always sound", and
-  -- the other way round
+  -- "Start from a cleared register that only our calls touch, and make calls in every order. A released plan is then, .."
   pub register : SlotPromise
+  -- "Splitting loses and invents nothing: .."
   pub splitting : Splitting
+  -- "Wherever supply isn't refused, .."
   pub packing : Packing
+  pub packed-packing : PackedPacking

@@ -9,7 +9,7 @@ use Rattle.day.specs.Calendar.{numberOf}
 use Rattle.day.specs.Days.{openMark}
 use Rattle.layout.specs.Layout.{Written, laidOut}
 use Rattle.layout.specs.Reading.{periodsOf}
-use Rattle.layout.specs.declared.Head.{Head}
+use Rattle.plan.specs.declared.Head.{Head}
 use Rattle.plan.specs.declared.Dose.{Dose}
 use Rattle.split.specs.Parts.{partBytes}
 use Rattle.promises.specs.Demand2.{IsAccepted}

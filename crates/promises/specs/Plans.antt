@@ -3,7 +3,7 @@ use Prim.Native.Nat.{ℕ}
 use mathlib.Core.List.{List, [], _∷_}
 use Rattle.day.specs.Days.{openMark}
 use Rattle.plan.specs.declared.Dose.{Dose}
-use Rattle.layout.specs.declared.Head.{Head}
+use Rattle.plan.specs.declared.Head.{Head}
 use Rattle.layout.specs.Layout.{Written, laidOut}
 
 -- plan number 1, in an open treatment from day 0 on

@@ -7,12 +7,13 @@ use mathlib.Core.Path.{_≡_}
 use lib.ListN.{length, replicate}
 use Rattle.doses.specs.Doses.{dosesOn}
 use Rattle.register.specs.History.{Event, isOk}
-use Rattle.register.specs.Reached.{eventOf, givenBy, slotCalls, IsBytes, ReachedSlots}
+use Rattle.register.specs.Promise.{givenBy}
+use Rattle.register.specs.Reached.{seen, IsBytes, Reached}
 use Rattle.register.specs.Runs.{numbersOf}
 use Rattle.register.specs.Steps.{Call.clear, Call.submit, Call.sign, Call.release}
 use Rattle.split.specs.Parts.{hasRun}
 use Rattle.split.specs.Split.{splitOf, refusalIn}
-use Rattle.supply.specs.Supply.{supplyOf}
+use Rattle.supply.specs.Supply.{supplyOf, packedSupplyOf}
 use Rattle.supply.specs.declared.Supply.the-variants.{Lasts}
 use Rattle.promises.specs.Cases.{oneDaily, twoDaily, oneSlot, output, signedPlan, A, B}
 use Rattle.promises.specs.Demand2.{IsAccepted, IsLowest}
@@ -33,15 +34,18 @@ pub record Witnesses : Type 0 where
   pub run : hasRun false (plan (fixed 6547 6550 ∷ empty 6551 6556 ∷ fixed 6557 6560 ∷ [])) 1 ≡ true
   -- demand 3: calls that release a plan of 1,024 bytes
   pub calls : numbersOf oneSlot (clear ∷ submit (signedPlan 4) ∷ sign A (signedPlan 4) ∷ sign B (signedPlan 4) ∷ release 1 output ∷ []) ≡ 0 ∷ 0 ∷ 0 ∷ 0 ∷ 0 ∷ []
-  pub released : (h : List Event) × (r : List ℕ) × ReachedSlots h r × (isOk (eventOf slotCalls r (release 1 output)) ≡ true)
-      × (givenBy slotCalls r 1 output ≡ signedPlan 4)
+  pub released : (h : List Event) × (r : List ℕ) × Reached h r × (isOk (seen r (release 1 output)) ≡ true)
+      × (givenBy r 1 output ≡ signedPlan 4)
   pub long : length (signedPlan 4) ≡ 1024
   -- a split that is not refused, and a day on which both parts have a dose
   pub is-bytes : IsBytes bothMarks
   pub parted : refusalIn (splitOf bothMarks partRoom partRoom) .number ≡ 0
   pub fixed-dose : dosesOn (fixedPart bothMarks partRoom partRoom) 6548 ≡ unmarked 100 ∷ []
   pub need-dose : dosesOn (needPart bothMarks partRoom partRoom) 6548 ≡ marked 100 ∷ []
-  -- supplies that stop for reason 1, 2 and 3
+  -- supplies that stop for reason 1, 2 and 3, with a list of pauses and in the call that the screen makes
   pub needs-more : supplyOf (plan twoDaily) 8077 500 2 [] ≡ Lasts (record { days = 2; last = 8078; rest = 100; reason = 1 })
   pub dosage-ends : supplyOf (plan oneDaily) 8077 50000 2 [] ≡ Lasts (record { days = 29; last = 8105; rest = 47100; reason = 2 })
   pub calendar-ends : supplyOf (plan twoDaily) 73047 500 2 [] ≡ Lasts (record { days = 2; last = 73048; rest = 100; reason = 3 })
+  pub packed-needs-more : packedSupplyOf (plan twoDaily) 8077 500 2 [] ≡ Lasts (record { days = 2; last = 8078; rest = 100; reason = 1 })
+  pub packed-dosage-ends : packedSupplyOf (plan oneDaily) 8077 50000 2 [] ≡ Lasts (record { days = 29; last = 8105; rest = 47100; reason = 2 })
+  pub packed-calendar-ends : packedSupplyOf (plan twoDaily) 73047 500 2 [] ≡ Lasts (record { days = 2; last = 73048; rest = 100; reason = 3 })

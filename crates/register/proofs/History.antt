@@ -12,9 +12,8 @@ use borrow.Author.Tests.{eqb-true}
 use Rattle.below.proofs.Tests.{bool-cases}
 use Rattle.plan.specs.Fields.{planNumberOf}
 use Rattle.register.specs.History.{Event, Signature, isOk, acceptedWith, signedWith, latest, signatures}
-use Rattle.register.specs.Promise.{Promise}
-use Rattle.register.specs.Reached.{Calls, eventOf, givenBy, Reached, Reached.cleared, Reached.called}
 use Rattle.register.specs.Steps.{Call, Call.clear, Call.submit, Call.sign, Call.release, Call.drop, Call.state}
+use Rattle.register.proofs.AnyRegister.{Calls, eventOf, anyGiven, AnyReached, AnyReached.any-cleared, AnyReached.any-called, AnyPromise}
 use Rattle.register.proofs.LawFind.{none-some}
 
 -- the latest plan accepted under a number has that number
@@ -77,35 +76,35 @@ module _ {R : Type 0} (k : Calls R) (Lent : R → Type 0) (Can : Call → Type 0
         signedUnder (k .leaves r c) n ≡ signedWith n c (isOk (eventOf k r c)) (signedUnder r n)
     -- what a release gives, and when
     pub released-plan : (r : R) → good r → (n : ℕ) (room : List ℕ) → isOk (eventOf k r (release n room)) ≡ true →
-        planUnder r n ≡ some (givenBy k r n room)
+        planUnder r n ≡ some (anyGiven k r n room)
     pub released-two : (r : R) → good r → (n : ℕ) (room : List ℕ) → isOk (eventOf k r (release n room)) ≡ true →
-        TwoSigned (givenBy k r n room) (signedUnder r n)
+        TwoSigned (anyGiven k r n room) (signedUnder r n)
     pub releases : (r : R) → good r → (n : ℕ) (room p : List ℕ) → planUnder r n ≡ some p → TwoSigned p (signedUnder r n) → 16384 ≤ length room →
-        (isOk (eventOf k r (release n room)) ≡ true) × (givenBy k r n room ≡ p)
+        (isOk (eventOf k r (release n room)) ≡ true) × (anyGiven k r n room ≡ p)
 
   module _ (L : Laws) where
-    good-at : {h : List Event} {r : R} → Reached k Lent Can h r → L .good r
-    good-at (cleared {r = r} a e) = L .good-cleared r a e
-    good-at (called {r = r} c a w) = L .good-after r (good-at w) c a
+    good-at : {h : List Event} {r : R} → AnyReached k Lent Can h r → L .good r
+    good-at (any-cleared {r = r} a e) = L .good-cleared r a e
+    good-at (any-called {r = r} c a w) = L .good-after r (good-at w) c a
 
     -- the plan that stands under a number is the latest one accepted
-    pub plan-at : (n : ℕ) {h : List Event} {r : R} → Reached k Lent Can h r → L .planUnder r n ≡ latest n h
+    pub plan-at : (n : ℕ) {h : List Event} {r : R} → AnyReached k Lent Can h r → L .planUnder r n ≡ latest n h
     unfolding latest
-    plan-at n (cleared {r = r} a e) = L .plan-cleared r a e n ∙ rw e
-    plan-at n (called {r = r} c a w) = L .plan-after r (good-at w) c a n ∙ ap (acceptedWith n c (isOk (eventOf k r c))) (plan-at n w)
+    plan-at n (any-cleared {r = r} a e) = L .plan-cleared r a e n ∙ rw e
+    plan-at n (any-called {r = r} c a w) = L .plan-after r (good-at w) c a n ∙ ap (acceptedWith n c (isOk (eventOf k r c))) (plan-at n w)
 
     -- and who has signed it is who has signed since
-    pub signed-at : (n : ℕ) {h : List Event} {r : R} → Reached k Lent Can h r → L .signedUnder r n ≡ signatures n h
+    pub signed-at : (n : ℕ) {h : List Event} {r : R} → AnyReached k Lent Can h r → L .signedUnder r n ≡ signatures n h
     unfolding signatures
-    signed-at n (cleared {r = r} a e) = L .signed-cleared r a e n ∙ rw e
-    signed-at n (called {r = r} c a w) = L .signed-after r (good-at w) c a n ∙ ap (signedWith n c (isOk (eventOf k r c))) (signed-at n w)
+    signed-at n (any-cleared {r = r} a e) = L .signed-cleared r a e n ∙ rw e
+    signed-at n (any-called {r = r} c a w) = L .signed-after r (good-at w) c a n ∙ ap (signedWith n c (isOk (eventOf k r c))) (signed-at n w)
 
-    pub promise : (Sound : R → Type 0) → ((r : R) → L .good r → Sound r) → Promise k Lent Can Sound
+    pub promise : (Sound : R → Type 0) → ((r : R) → L .good r → Sound r) → AnyPromise k Lent Can Sound
     promise Sound good-sound =
         record {
           stays-sound = λ h r w. good-sound r (good-at w);
           gives-justified = λ h r w n room e.
-              let t : TwoSigned (givenBy k r n room) (signatures n h) = rw (signed-at n w) at (L .released-two r (good-at w) n room e) in
+              let t : TwoSigned (anyGiven k r n room) (signatures n h) = rw (signed-at n w) at (L .released-two r (good-at w) n room e) in
               record {
                 accepted = sym (plan-at n w) ∙ L .released-plan r (good-at w) n room e;
                 one = t .one;

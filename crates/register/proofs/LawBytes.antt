@@ -8,7 +8,7 @@ use Rattle.block.specs.Bytes.{bytesOf}
 use Rattle.layout.proofs.Blocks.{length-filled}
 use Rattle.layout.proofs.Bytes.{Bytes, every-byte, are-bytes, part-bytes, of-number, zero-bytes, put-bytes, sealed-bytes}
 use Rattle.layout.proofs.Every.{every-append, every-drop, every-join}
-use Rattle.layout.specs.Fits.{Every.none, Every.more}
+use Rattle.below.specs.Lists.{Every.none, Every.more}
 use Rattle.layout.specs.Layout.{filled}
 use Rattle.register.specs.Slots.{slotsOf, slotAt, blocksIn, planIn, controlBytes, slotBytes, withSlot}
 use Rattle.register.specs.Steps.{Call.clear, freeSlot, changed}

@@ -12,34 +12,43 @@ use borrow.Author.Tests.{eqb-false, lt-ltb}
 use Rattle.below.proofs.Tests.{bool-cases}
 use Rattle.register.specs.History.{Event, Signature, latest, signatures}
 use Rattle.register.specs.Promise.{SlotPromise}
-use Rattle.register.specs.Reached.{eventOf, Reached.cleared, slotCalls, IsBytes, CanCall, ReachedSlots}
+use Rattle.register.specs.Reached.{seen, Reached, Reached.cleared, IsBytes, CanCall}
 use Rattle.register.specs.Slots.{slotsOf, firstSigner, secondSigner, planIn}
 use Rattle.register.specs.Sound.{sound}
 use Rattle.register.specs.Steps.{Call.clear, isDone, refusedBy, after}
+use Rattle.register.proofs.AnyRegister.{slotCalls, reached-any, AnyPromise}
 use Rattle.register.proofs.History.{plan-at, signed-at, promise}
 use Rattle.register.proofs.LawFind.{found}
 use Rattle.register.proofs.Reached.{planOf, signaturesIn, signaturesOf, answered-done, slot-laws}
 
-pub slot-promise : SlotPromise
+any-promise : AnyPromise slotCalls IsBytes CanCall (λ r. sound r ≡ true)
 unfolding slot-laws
-slot-promise = promise slotCalls IsBytes CanCall slot-laws (λ r. sound r ≡ true) (λ r g. g .is-sound)
+any-promise = promise slotCalls IsBytes CanCall slot-laws (λ r. sound r ≡ true) (λ r g. g .is-sound)
+
+pub slot-promise : SlotPromise
+slot-promise =
+    record {
+      stays-sound = λ h r w. any-promise .stays-sound h r (reached-any w);
+      gives-justified = λ h r w. any-promise .gives-justified h r (reached-any w);
+      justified-given = λ h r w. any-promise .justified-given h r (reached-any w);
+    }
 
 -- there are reached registers: all that a clear is called on, where there is a slot
-pub begins : (r : List ℕ) → IsBytes r → 16896 ≤ length r → ReachedSlots (eventOf slotCalls r clear ∷ []) (after r clear)
-begins r bytes l = cleared bytes (answered-done r clear ∙ not-refused)
+pub begins : (r : List ℕ) → IsBytes r → 16896 ≤ length r → Reached (seen r clear ∷ []) (after r clear)
+begins r bytes l = cleared r bytes (answered-done r clear ∙ not-refused)
   where
     not-refused : isDone (refusedBy r clear) ≡ true
     not-refused = unfold refusedBy in (let some-slot : 0 < slotsOf r = omega arith in rw (lt-ltb _ _ some-slot))
 
 -- under each number the register finds the latest plan accepted, and those who have signed it since
-module _ {h : List Event} {r : List ℕ} (w : ReachedSlots h r) (n : ℕ) where
+module _ {h : List Event} {r : List ℕ} (w : Reached h r) (n : ℕ) where
   pub held-latest : planOf (found r n) ≡ latest n h
   unfolding slot-laws
-  held-latest = plan-at slotCalls IsBytes CanCall slot-laws n w
+  held-latest = plan-at slotCalls IsBytes CanCall slot-laws n (reached-any w)
 
   pub held-signed : signaturesOf (found r n) ≡ signatures n h
   unfolding slot-laws
-  held-signed = signed-at slotCalls IsBytes CanCall slot-laws n w
+  held-signed = signed-at slotCalls IsBytes CanCall slot-laws n (reached-any w)
 
 -- who stands in a slot: two at the most, on its plan, and never signer 0
 few-in : (s : List ℕ) → length (signaturesIn s) ≤ 2
@@ -90,7 +99,7 @@ stands-of none g m = absurd (List·Memᴰ·not-nil m)
 stands-of (some s) g m = stands-in s g m
 
 -- so it is of the history: since the latest plan was accepted at most two have signed, each that plan, and never signer 0
-module _ {h : List Event} {r : List ℕ} (w : ReachedSlots h r) (n : ℕ) where
+module _ {h : List Event} {r : List ℕ} (w : Reached h r) (n : ℕ) where
   pub few-signatures : length (signatures n h) ≤ 2
   few-signatures = rw (← (held-signed w n)) (few-of (found r n))
 

@@ -15,10 +15,12 @@ use Rattle.below.proofs.Tests.{bool-cases, true-not-false, and-both, or-either}
 use Rattle.block.proofs.Numbers.{AreBytes}
 use Rattle.plan.specs.Fields.{planNumberOf}
 use Rattle.register.specs.History.{Signature, acceptedWith, signedWith}
-use Rattle.register.specs.Reached.{givenBy, slotCalls, IsBytes, CanCall}
+use Rattle.register.specs.Promise.{givenBy}
+use Rattle.register.specs.Reached.{IsBytes, CanCall}
 use Rattle.register.specs.Slots.{firstSigner, secondSigner, planIn, slotBytes, heldAt, isHeld, slotUnder, planUnder}
 use Rattle.register.specs.Sound.{sound}
 use Rattle.register.specs.Steps.{Call, Call.clear, Call.submit, Call.sign, Call.release, Call.drop, Call.state, isDone, refusedBy, changed, after, given, answered, roomAfter}
+use Rattle.register.proofs.AnyRegister.{slotCalls}
 use Rattle.register.proofs.History.{TwoSigned, Laws}
 use Rattle.register.proofs.Kept.{after-done, after-refused, after-sound, after-bytes, cleared-sound}
 use Rattle.register.proofs.LawCalls.{clear-found, submit-found, sign-found, drop-found, first-then, second-then, first-fits, second-fits}
@@ -185,7 +187,7 @@ module _ (r : List ℕ) (bytes : AreBytes r) (n : ℕ) where
 
 -- what a release gives
 module _ (r : List ℕ) (n : ℕ) (room : List ℕ) where
-  pub release-gives : isDone (refusedBy r (release n room)) ≡ true → givenBy slotCalls r n room ≡ planUnder r n
+  pub release-gives : isDone (refusedBy r (release n room)) ≡ true → givenBy r n room ≡ planUnder r n
   unfolding answered given roomAfter
   release-gives e = rw e (take-append-seam (planUnder r n) (from (length (planUnder r n)) room))
 

@@ -8,6 +8,7 @@ use native.Mathlib.Omega.{arith}
 use lib.ListN.{length, take, drop, length-drop, drop-of-length-le}
 use lib.Seq.{length-take-le, take-nil, take-take, drop-drop}
 use borrow.Author.Tests.{ne-eqb}
+use Rattle.plan.specs.Fields.{headerOf}
 use Rattle.below.specs.Lists.{pickBelow}
 use Rattle.below.proofs.Search.{first-unique, first-le}
 use Rattle.below.proofs.Tests.{and-both}
@@ -129,8 +130,8 @@ module _ (fixed need : List ℕ) (list day : ℕ) where
         let p = wanted fixed need list in
         rw (counts-shown, first-shown)
         (pick-same (dosesOf p b)
-        (λ j. applies (positionOf (blockAt p b) day) (doseIn (shown fixed need list day) 0 j))
-        (λ j. applies (positionOf (blockAt p b) day) (doseIn p b j))
+        (λ j. applies (positionOf (headerOf (blockAt p b)) day) (doseIn (shown fixed need list day) 0 j))
+        (λ j. applies (positionOf (headerOf (blockAt p b)) day) (doseIn p b j))
         (doseIn (shown fixed need list day) 0) (doseIn p b)
         (λ j l. rw (dose-shown j l))
         dose-shown)

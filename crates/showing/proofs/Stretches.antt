@@ -15,7 +15,7 @@ use Rattle.refusal.specs.declared.Refusal.{Refusal}
 use Rattle.plan.specs.Fields.{firstOf, lastOf}
 use Rattle.plan.specs.Periods.{blocksOf, blockAt, isPeriod, isContinuation, moreOf}
 use Rattle.form.specs.Form.{formOf}
-use Rattle.form.specs.Whole.{Whole}
+use Rattle.form.specs.code.Whole.{Whole}
 use Rattle.form.specs.declared.Form.{Form}
 use Rattle.form.specs.declared.Form.the-variants.{Right, Broken}
 use Rattle.form.proofs.Formed.{formed, head-no-period, dated}

@@ -8,7 +8,7 @@ ghost use mathlib.Core.Path.{_≡_};
 ghost use Prim.Native.Nat.{_+_, _≤_};
 ghost use lib.ListN.{length, take, drop};
 ghost use denote.Ref.{ptr};
-ghost use Rattle.form.specs.Whole.{Whole};
+ghost use Rattle.form.specs.code.Whole.{Whole};
 ghost use Rattle.showing.specs.Showing.{nothing, firstCovering, blocksShown, shownIn, stretchOf, shown};
 
 // A stretch of a part: where it begins, and how many bytes it has.

@@ -11,13 +11,13 @@ use Rattle.plan.specs.declared.Dose.{Dose}
 use Rattle.plan.specs.Periods.{isPeriod, mixed, classOf}
 use Rattle.layout.specs.Layout.{Written, bodyOf, blocksFor}
 use Rattle.plan.specs.declared.Header.{Header}
-use Rattle.verdict.specs.Groups.{isMember}
+use Rattle.verdict.specs.Coverage.{isMember}
 use Rattle.writer.specs.declared.Place.{Place}
 use Rattle.writer.specs.Steps.{periodAdded, periodPlace, doseAdded, dosePlace}
 use Rattle.writer.proofs.Holding.{holds-period, holds-dose, last-doses}
 use Rattle.writer.proofs.Laying.{length-body-last, blocks-are, one-dose-more, without-room}
 use Rattle.split.specs.Parts.{isDosedIn}
-use Rattle.split.specs.Adding.{ownClass, HasRoom, Adds, withDoses, AddsDoses}
+use Rattle.split.specs.code.Adding.{ownClass, HasRoom, Adds, withDoses, AddsDoses}
 
 -- a part's dosed periods, by their class
 pub dosed-is : (marked : Bool) (p : List ℕ) (b : ℕ) → isDosedIn marked p b ≡ (isPeriod p b && (eqb (classOf p b) (ownClass marked) || eqb (classOf p b) mixed))

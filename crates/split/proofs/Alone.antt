@@ -22,7 +22,7 @@ use Rattle.layout.specs.Reading.{dosesAt, periodAt, periodsOf}
 use Rattle.plan.specs.Fields.{isMarked}
 use Rattle.plan.specs.Periods.{blocksOf, isPeriod, dosesOf, doseIn, hasUnmarked, hasMarked, classBy, classOf}
 use Rattle.verdict.specs.Verdict.{planLimit}
-use Rattle.split.specs.Adding.{ownClass, isOther, isAlone}
+use Rattle.split.specs.code.Adding.{ownClass, isOther, isAlone}
 use Rattle.split.specs.Parts.{isDosedIn, isOfPart, dosedPeriod, hasRun, runFirst, runLast, sharedBy, sharedIn, behind, broughtBy, partOf, partBytes}
 use Rattle.split.specs.Split.{over}
 use Rattle.split.proofs.Adding.{dosed-is}

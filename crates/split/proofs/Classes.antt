@@ -9,7 +9,7 @@ use borrow.Author.Tests.{lt-ltb, le-ltb, le-leb, lt-leb}
 use Rattle.plan.specs.Fields.{firstOf, lastOf}
 use Rattle.plan.specs.Periods.{blocksOf, blockAt, isPeriod, empty, mixed, classOf}
 use Rattle.split.specs.Parts.{isDosedIn, dosedPeriod, nextDosed, runFirst, runLast, sharesRun, sharedIn, behind, broughtBy}
-use Rattle.split.specs.Adding.{ownClass, isOther}
+use Rattle.split.specs.code.Adding.{ownClass, isOther}
 use Rattle.split.proofs.Adding.{dosed-is}
 
 -- what is asked of a class that is right where a period begins

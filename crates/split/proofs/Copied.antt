@@ -1,26 +1,26 @@
 -- The part's doses of a block, one by one and as they lie in a period, and the loop that copies them. Assumes nothing.
 use Prim.Native.Nat.{ℕ, zero, suc, _+_, _-_, _*_, _≤_, _<_, min}
-use mathlib.Core.Bool.{Bool, true, false, cond, not, _&&_, Bool·beq}
+use mathlib.Core.Bool.{Bool, true, false, cond, not, _&&_}
 use mathlib.Core.List.{List, [], _∷_, _++_, append-assoc, append-nil}
-use mathlib.Core.Path.{_≡_, refl, sym, ap, _∙_}
+use mathlib.Core.Path.{_≡_, sym, ap, _∙_}
 use native.Mathlib.Omega.{arith}
 use lib.Dec.{eqb, leb}
-use lib.ListN.{length, take, drop, length-append}
+use lib.ListN.{length, take, drop, length-append, length-drop}
+use lib.Seq.{length-take-le}
 use borrow.Author.Tests.{eqb-true, leb-true, not-true, not-false}
 use borrow.Rule.Slice.PartMut.{putMid}
 use Rattle.below.proofs.Lists.{list-more, list-same, keep-append}
 use Rattle.below.proofs.Tests.{and-both}
 use Rattle.below.specs.Lists.{listBelow, keep}
 use Rattle.block.proofs.Put.{part-put}
-use Rattle.block.specs.Bytes.{byteAt, put}
-use Rattle.layout.proofs.Blocks.{length-dose}
-use Rattle.layout.specs.Layout.{doseBytes}
-use Rattle.plan.proofs.Marks.{mark-at, at-place}
-use Rattle.plan.proofs.Parts.{part-whole}
+use Rattle.block.proofs.Puts.{put-all}
+use Rattle.block.specs.Bytes.{put}
+use Rattle.plan.proofs.DoseRecord.{length-dose}
+use Rattle.plan.proofs.Marks.{at-place}
 use Rattle.plan.specs.declared.Dose.{Dose}
-use Rattle.plan.specs.Fields.{recordAt, doseOf}
+use Rattle.plan.specs.Fields.{recordAt, doseOf, doseBytes, recordStart}
 use Rattle.plan.specs.Periods.{blockAt, doseIn}
-use Rattle.split.specs.Adding.{keptIn, recordsPut}
+use Rattle.split.specs.code.Adding.{keptIn, recordsPut}
 use Rattle.split.specs.Parts.{isOfPart}
 use Rattle.split.proofs.Records.{records-none, records-one, records-more}
 
@@ -82,23 +82,25 @@ module _ (out : List ℕ) (block m : ℕ) (r : List ℕ) (i : ℕ) (marked : Boo
   abbrev kept : List Dose
   kept = keep (isOfPart marked) (doseOf (recordAt r i) ∷ [])
 
-  pub not-kept : not (Bool·beq (eqb (byteAt r (27 + i * 24)) 1) marked) ≡ true → (out ≡ recordsPut out block m kept) × (m ≡ m + length kept)
+  pub not-kept : not (isOfPart marked (doseOf (recordAt r i))) ≡ true → (out ≡ recordsPut out block m kept) × (m ≡ m + length kept)
   unfolding keep
   not-kept e =
-      let f : isOfPart marked (doseOf (recordAt r i)) ≡ false = rw (mark-at r i) (not-true _ e) in
+      let f : isOfPart marked (doseOf (recordAt r i)) ≡ false = not-true _ e in
       rw f (sym (records-none out block m h (omega arith)), omega arith)
 
-  pub is-kept : not (Bool·beq (eqb (byteAt r (27 + i * 24)) 1) marked) ≡ false → (s : List ℕ) →
-      s ≡ doseBytes (doseOf (take (24 + i * 24 + 24 - (24 + i * 24)) (drop (24 + i * 24) r))) →
-      (putMid (block + 24 + m * 24) (block + 24 + m * 24 + 24 - (block + 24 + m * 24)) out s ≡ recordsPut out block m kept) × (m + 1 ≡ m + length kept)
+  pub is-kept : not (isOfPart marked (doseOf (recordAt r i))) ≡ false → {at : ℕ} → at ≡ recordStart m → (s : List ℕ) →
+      s ≡ put (take (block + at + 24 - (block + at)) (drop (block + at) out)) 0 (doseBytes (doseOf (recordAt r i))) →
+      (putMid (block + at) (block + at + 24 - (block + at)) out s ≡ recordsPut out block m kept) × (m + 1 ≡ m + length kept)
   unfolding keep
-  is-kept e s g =
-      let f : isOfPart marked (doseOf (recordAt r i)) ≡ true = rw (mark-at r i) (not-false _ e) in
-      let a = block + 24 + m * 24 in
-      let q : s ≡ doseBytes (doseOf (recordAt r i)) = g ∙ ap (λ (t : List ℕ). doseBytes (doseOf t)) (part-whole r (24 + i * 24) 24 refl) in
-      let n : length s ≡ 24 = rw q (length-dose (doseOf (recordAt r i))) in
-      let b : putMid a (a + 24 - a) out s ≡ put out a s = part-put out s a (a + 24) (omega arith) (omega arith) (omega arith) in
-      rw f (b ∙ ap (λ (t : List ℕ). put out a t) q ∙ sym (records-one out block m (doseOf (recordAt r i))), omega arith)
+  is-kept e {at} z s g =
+      let f : isOfPart marked (doseOf (recordAt r i)) ≡ true = not-false _ e in
+      let d = doseOf (recordAt r i) in
+      let a = block + at in
+      let q = take (a + 24 - a) (drop a out) in
+      let n : length q ≡ 24 = length-take-le (a + 24 - a) (drop a out) (rw length-drop (omega arith)) ∙ omega arith in
+      let w : s ≡ doseBytes d = g ∙ put-all q (doseBytes d) (length-dose d ∙ sym n) in
+      let b : putMid a (a + 24 - a) out (doseBytes d) ≡ put out a (doseBytes d) = part-put out (doseBytes d) a (a + 24) (omega arith) (omega arith) (omega (arith, length-dose d)) in
+      rw (f, w) (b ∙ rw z (sym (records-one out block m d)), omega arith)
 
 -- the loop over a block's doses: it begins and turns
 module _ (first : List ℕ) (block held : ℕ) (marked : Bool) (r : List ℕ) (from : ℕ) (h : block + 512 ≤ length first) where

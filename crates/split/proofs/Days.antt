@@ -15,7 +15,7 @@ use Rattle.below.proofs.Tests.{bool-cases, true-not-false}
 use Rattle.block.proofs.Numbers.{AreBytes}
 use Rattle.day.specs.Days.{closedDay}
 use Rattle.plan.specs.declared.Dose.{Dose}
-use Rattle.plan.specs.Fields.{isMarked}
+use Rattle.plan.specs.Fields.{isMarked, headerOf}
 use Rattle.plan.specs.Periods.{blocksOf, blockAt, isPeriod, dosesOf, doseIn, hasUnmarked, hasMarked, mixed, classBy, classOf}
 use Rattle.doses.specs.Doses.{covers, positionOf, applies, dosesOfPeriod, dosesOn}
 use Rattle.layout.specs.Layout.{Written, laidOut}
@@ -23,8 +23,8 @@ use Rattle.layout.specs.Reading.{headOf, headerAt, dosesAt, periodAt, periodsOf
 use Rattle.layout.proofs.Back.{periods-read}
 use Rattle.layout.proofs.Blocks.{blocks-laid}
 use Rattle.split.specs.Parts.{runFirst, runLast, hasRun, isDosedIn, isOfPart, dosedPeriod, sharesRun, shared, sharedBy, sharedIn, behind, broughtBy, partOf, partBytes}
-use Rattle.split.specs.Adding.{ownClass}
-use Rattle.split.specs.Days.{positionIn, dosesOnDay}
+use Rattle.split.specs.code.Adding.{ownClass}
+use Rattle.split.specs.Days.{dosesOnDay}
 use Rattle.split.proofs.Adding.{dosed-is}
 use Rattle.split.proofs.Kept.{Kept, kept-few}
 use Rattle.split.proofs.Range.{part-fits}
@@ -47,9 +47,9 @@ over-cond f false x = refl
 
 -- the doses of a day, over the periods that are read from the bytes
 module _ (q : List ℕ) (d : ℕ) where
-  of-period : (b : ℕ) → dosesOfPeriod q d b ≡ keep (applies (positionIn (headerAt q b) d)) (dosesAt q b)
-  unfolding dosesOfPeriod dosesAt positionOf positionIn headerAt
-  of-period b = pick-keep (dosesOf q b) (applies (positionOf (blockAt q b) d)) (doseIn q b)
+  of-period : (b : ℕ) → dosesOfPeriod q d b ≡ keep (applies (positionOf (headerAt q b) d)) (dosesAt q b)
+  unfolding dosesOfPeriod dosesAt positionOf headerAt
+  of-period b = pick-keep (dosesOf q b) (applies (positionOf (headerOf (blockAt q b)) d)) (doseIn q b)
 
   of-block : (b : ℕ) → cond (covers q d b) (dosesOfPeriod q d b) [] ≡ cond (isPeriod q b) (dosesOnDay d (periodAt q b)) []
   unfolding dosesOnDay headerAt
@@ -117,7 +117,7 @@ module _ (m : Bool) (p : List ℕ) (d b : ℕ) where
   unfolding dosesOnDay
   dosed-share =
       let t = leb (headerAt p b .first) d && leb d (closedDay (headerAt p b .end)) in
-      let on = applies (positionIn (headerAt p b) d) in
+      let on = applies (positionOf (headerAt p b) d) in
       rw (keep-cond (isOfPart m) t (keep on (dosesAt p b)))
       (ap (λ (l : List Dose). cond t l []) (keep-swap on (isOfPart m) (dosesAt p b)))
 

@@ -7,7 +7,7 @@ use native.Mathlib.Omega.{arith}
 use borrow.Author.Tests.{le-leb, le-ltb, ne-eqb}
 use Rattle.day.specs.Days.{lastNumber, openMark, closedDay, isNoSpan}
 use Rattle.layout.proofs.Every.{every-cond, every-join}
-use Rattle.layout.specs.Fits.{Every, Every.none, Every.more}
+use Rattle.below.specs.Lists.{Every, Every.none, Every.more}
 use Rattle.layout.specs.Layout.{Written}
 use Rattle.plan.specs.Fields.{firstOf, lastOf}
 use Rattle.plan.specs.Periods.{blocksOf, blockAt}

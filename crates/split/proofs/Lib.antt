@@ -13,6 +13,5 @@ pub mod Adding
 pub mod Classes
 pub mod Days
 pub mod Alone
-pub mod Puts
 pub mod Records
 pub mod Copied

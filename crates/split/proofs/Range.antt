@@ -12,7 +12,8 @@ use Rattle.layout.proofs.Blocks.{length-laid}
 use Rattle.layout.proofs.Every.{every-keep}
 use Rattle.layout.proofs.Fitting.{head-fits, header-fits, period-fits, head-ranged, period-ranged}
 use Rattle.layout.proofs.Formed.{laid-right}
-use Rattle.layout.specs.Fits.{Every.none, AllFit, Ranged}
+use Rattle.below.specs.Lists.{Every.none}
+use Rattle.layout.specs.code.Fits.{AllFit, Ranged}
 use Rattle.layout.specs.Reading.{headOf}
 use Rattle.verdict.specs.Verdict.{planLimit}
 use Rattle.split.specs.Parts.{isOfPart, runFirst, runLast, partOf, partBytes}

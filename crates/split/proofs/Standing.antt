@@ -16,8 +16,7 @@ use Rattle.form.proofs.Formed.{dated}
 use Rattle.plan.specs.Fields.{firstOf, lastOf}
 use Rattle.plan.specs.Periods.{blocksOf, blockAt, isPeriod, empty, classOf}
 use Rattle.verdict.proofs.Members.{member-period, class-small}
-use Rattle.verdict.specs.Coverage.{inGroup, mayShare, hasDays}
-use Rattle.verdict.specs.Groups.{isMember}
+use Rattle.verdict.specs.Coverage.{inGroup, mayShare, hasDays, isMember}
 use Rattle.split.specs.Parts.{groupOf, isDosedIn, nextDosed, runFirst, runLast, hasRun, sharesRun}
 use Rattle.split.proofs.Kept.{Kept}
 use Rattle.split.proofs.Next.{next-is, next-le}

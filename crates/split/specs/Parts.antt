@@ -11,8 +11,7 @@ use Rattle.plan.specs.Fields.{firstOf, lastOf, isMarked}
 use Rattle.plan.specs.Periods.{blocksOf, blockAt, isPeriod, empty, classOf}
 use Rattle.layout.specs.Layout.{Written, laidOut}
 use Rattle.layout.specs.Reading.{headOf, headerAt, dosesAt}
-use Rattle.verdict.specs.Coverage.{hasDays}
-use Rattle.verdict.specs.Groups.{isMember}
+use Rattle.verdict.specs.Coverage.{hasDays, isMember}
 use Rattle.verdict.specs.declared.Group.the-variants.{Fixed, Need}
 use Rattle.verdict.specs.declared.Group.{Group}
 

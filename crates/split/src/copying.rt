@@ -1,13 +1,13 @@
 // The doses of the part that a block of the plan holds, put behind those in the last block of the part. Where they all have room
 // there, their records are copied as they stand and counted once.
-use block::half_at;
-use block::long_at;
 use block::put_bytes;
-use block::put_long;
-use block::put_word;
-use block::word_at;
+use plan::RECORD;
+use plan::copy_dose;
 use plan::dose_at;
 use plan::is_marked;
+use plan::is_record_marked;
+use plan::record_of;
+use plan::record_start;
 use writer::Place;
 use writer::add_dose;
 ghost use mathlib.Core.Path.{_≡_};
@@ -17,24 +17,8 @@ ghost use Prim.Native.Nat.{_+_, _-_, _*_, _≤_, _<_};
 ghost use lib.ListN.{length};
 ghost use Rattle.below.specs.Lists.{keep};
 ghost use Rattle.plan.specs.Fields.{recordAt, doseOf};
-ghost use Rattle.layout.specs.Layout.{doseBytes};
 ghost use Rattle.split.specs.Parts.{isOfPart};
-ghost use Rattle.split.specs.Adding.{AddsDoses, keptIn, recordsPut};
-
-// The record of a dose, from the one that it is read from: by numbers as wide as they can be, since the sums read them as words.
-fn copy_record(record: &mut [u8], source: &[u8])
-    requires { ⌜ length (now «record») ≡ 24 ⌝ }
-    ensures { λ _. ⌜ now («record» .exit) ≡ doseBytes (doseOf (now (source .entry))) ⌝ }
-{
-    let day_kind_mark = word_at(source, 0);
-    let minute = half_at(source, 4);
-    let low = long_at(source, 8);
-    let high = long_at(source, 16);
-    put_word(&mut *record, 0, day_kind_mark);
-    put_word(&mut *record, 4, minute as u32);
-    put_long(&mut *record, 8, low);
-    put_long(&mut *record, 16, high);
-}
+ghost use Rattle.split.specs.code.Adding.{AddsDoses, keptIn, recordsPut};
 
 // Dose i of block r goes behind m others into the block that begins at `block`, if it is one of the part's. Gives how many there
 // are then.
@@ -42,14 +26,13 @@ fn put_kept(out: &mut [u8], block: usize, m: u8, r: &[u8], i: u8, marked: bool) 
     requires { ⌜ (block + 512 ≤ length (now out)) × (length (now r) ≡ 512) × (m < 20) × (i < 20) ⌝ }
     ensures { λ n. ⌜ (now (out .exit) ≡ recordsPut (now (out .entry)) block m (keep (isOfPart marked) (doseOf (recordAt (now (r .entry)) i) ∷ []))) × (n ≡ m + length (keep (isOfPart marked) (doseOf (recordAt (now (r .entry)) i) ∷ []))) ⌝ }
 {
-    if !((r[27 + (i as usize) * 24] == 1) == marked) {
+    let source = record_of(r, i);
+    if !(is_record_marked(source) == marked) {
         return m;
     }
-    let at = 24 + (i as usize) * 24;
-    let end = at + 24;
-    let from = block + 24 + (m as usize) * 24;
-    let until = from + 24;
-    copy_record(&mut out[from..until], &r[at..end]);
+    let from = block + record_start(m);
+    let until = from + RECORD;
+    copy_dose(&mut out[from..until], source);
     m + 1
 }
 

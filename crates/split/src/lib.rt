@@ -11,10 +11,10 @@ ghost use mathlib.Core.Path.{_≡_};
 ghost use mathlib.Core.Bool.{true, false};
 ghost use Rattle.form.specs.Form.{formOf};
 ghost use Rattle.form.specs.declared.Form.the-variants.{Right};
-ghost use Rattle.verdict.specs.Ready.{Classed};
+ghost use Rattle.verdict.specs.code.Ready.{Classed};
 ghost use Rattle.verdict.specs.Verdict.{planLimit};
 ghost use Rattle.split.specs.Parts.{partOf, partBytes};
-ghost use Rattle.split.specs.Adding.{HasRoom};
+ghost use Rattle.split.specs.code.Adding.{HasRoom};
 ghost use Rattle.split.specs.Split.{over, lengthsOf, splitOf, leftBy};
 
 // The lengths of the two parts, in bytes.

@@ -25,10 +25,10 @@ ghost use Rattle.form.specs.declared.Form.the-variants.{Right};
 ghost use Rattle.plan.specs.Fields.{firstOf};
 ghost use Rattle.plan.specs.Periods.{blocksOf, blockAt};
 ghost use Rattle.layout.specs.Reading.{dosesAt};
-ghost use Rattle.verdict.specs.Ready.{Classed};
+ghost use Rattle.verdict.specs.code.Ready.{Classed};
 ghost use Rattle.verdict.specs.Verdict.{planLimit};
 ghost use Rattle.split.specs.Parts.{isDosedIn, isOfPart, dosedPeriod, nextDosed, runFirst, sharesRun, shared, sharedBy, sharedIn, behind, broughtBy, partOf, partBytes};
-ghost use Rattle.split.specs.Adding.{ownClass, isOther, isAlone, HasRoom, Adds, AddsDoses};
+ghost use Rattle.split.specs.code.Adding.{ownClass, isOther, isAlone, HasRoom, Adds, AddsDoses};
 ghost use Rattle.split.specs.Split.{over};
 
 // The class that has doses of the part alone: fixed or need.

@@ -20,7 +20,7 @@ use Rattle.verdict.proofs.Exactly.{NoRuleBroken}
 use Rattle.verdict.proofs.Lowest.{row-period, row-16}
 use Rattle.verdict.specs.Coverage.{mayShare, sharesWith, shares}
 use Rattle.verdict.specs.Verdict.{planLimit}
-use Rattle.supply.specs.Capped.{Sorted, supplies, Orderly}
+use Rattle.supply.specs.code.Capped.{Sorted, supplies, Orderly}
 use Rattle.supply.specs.Need.{isSupplied}
 
 -- fixed and mixed periods may not share a day

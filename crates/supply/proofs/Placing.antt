@@ -14,8 +14,8 @@ use borrow.Author.Count.{below-more}
 use borrow.Author.Tests.{eqb-true, eqb-false, ne-eqb}
 use Rattle.below.proofs.Tests.{bool-cases}
 use Rattle.doses.specs.Doses.{positionOf}
-use Rattle.plan.specs.Fields.{intervalOf, firstOf}
-use Rattle.supply.specs.Capped.{cap, From, lowestAt, needAt, Placed, positionBehind, Listed}
+use Rattle.plan.specs.Fields.{intervalOf, firstOf, headerOf}
+use Rattle.supply.specs.code.Capped.{cap, From, lowestAt, needAt, Placed, positionBehind, Listed}
 use Rattle.supply.specs.declared.today.Today.{Today}
 
 lowest-none : (x : ℕ) → x ≤ 1 → lowestAt x ≡ 0
@@ -60,7 +60,7 @@ pub listed-all : {choice : ℕ} {p : List ℕ} {b n x : ℕ} {needs : List ℕ} 
 listed-all s l = record { long = s .long; entry = λ k m h. s .entry k (omega arith) h }
 
 -- no day has position 0
-pub position-some : (r : List ℕ) (d : ℕ) → 0 < positionOf r d
+pub position-some : (r : List ℕ) (d : ℕ) → 0 < positionOf (headerOf r) d
 unfolding positionOf
 position-some r d =
     ⊎-elim
@@ -69,7 +69,7 @@ position-some r d =
     (bool-cases (eqb (intervalOf r) 0))
 
 -- and none has one past the days from 0 to it
-pub position-small : (r : List ℕ) (d : ℕ) → positionOf r d ≤ d + 1
+pub position-small : (r : List ℕ) (d : ℕ) → positionOf (headerOf r) d ≤ d + 1
 unfolding positionOf
 position-small r d =
     ⊎-elim
@@ -90,7 +90,7 @@ behind-mod s k l =
     rw t (omega (arith, q)))
     (bool-cases (eqb (s % k + 1) k))
 
-pub position-behind : (r : List ℕ) (d : ℕ) → firstOf r ≤ d → positionOf r (d + 1) ≡ positionBehind (intervalOf r) (positionOf r d)
+pub position-behind : (r : List ℕ) (d : ℕ) → firstOf r ≤ d → positionOf (headerOf r) (d + 1) ≡ positionBehind (intervalOf r) (positionOf (headerOf r) d)
 unfolding positionOf
 position-behind r d l =
     let e : d + 1 - firstOf r ≡ d - firstOf r + 1 = omega arith in

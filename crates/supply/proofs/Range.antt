@@ -9,6 +9,7 @@ use native.Mathlib.Omega.{arith}
 use lib.Dec.{eqb}
 use borrow.Author.Count.{below-more}
 use borrow.Author.Tests.{eq-eqb, ne-eqb, eqb-true, eqb-false}
+use Rattle.plan.specs.Fields.{headerOf}
 use Rattle.below.proofs.Tests.{bool-cases, and-false}
 use Rattle.below.proofs.Total.{sum-zero, sum-more}
 use Rattle.below.specs.Below.{sumBelow}
@@ -17,7 +18,7 @@ use Rattle.doses.specs.Doses.{positionOf, applies, dosesOfPeriod}
 use Rattle.below.specs.Lists.{sumOver}
 use Rattle.plan.specs.Periods.{blockAt, dosesOf, doseIn}
 use Rattle.plan.specs.declared.Dose.{Dose}
-use Rattle.supply.specs.Capped.{cap, From, lowestAt, needAt}
+use Rattle.supply.specs.code.Capped.{cap, From, lowestAt, needAt}
 use Rattle.supply.specs.Need.{chosen}
 
 -- terms that are 0 add nothing
@@ -114,6 +115,6 @@ module _ (choice : ℕ) (p : List ℕ) (b x : ℕ) where
 
 -- what a period needs on a day is what it needs at the day's position
 pub period-sum : (choice : ℕ) (p : List ℕ) (d b : ℕ) →
-    sumOver (chosen choice) (dosesOfPeriod p d b) ≡ needAt choice p b (positionOf (blockAt p b) d)
+    sumOver (chosen choice) (dosesOfPeriod p d b) ≡ needAt choice p b (positionOf (headerOf (blockAt p b)) d)
 unfolding dosesOfPeriod needAt
 period-sum choice p d b = sum-pick (chosen choice) (dosesOf p b) _ (doseIn p b)

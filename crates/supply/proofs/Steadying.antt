@@ -17,7 +17,7 @@ use Rattle.pause.specs.Pauses.{noDay, holds, isPaused}
 use Rattle.pause.specs.declared.Pause.{Pause}
 use Rattle.plan.specs.Fields.{firstOf, lastOf}
 use Rattle.plan.specs.Periods.{blockAt, isPeriod}
-use Rattle.supply.specs.Capped.{Steady, Told}
+use Rattle.supply.specs.code.Capped.{Steady, Told}
 use Rattle.supply.specs.declared.until.Spell.{Spell}
 
 -- days ahead of a stretch of days, in it, and past it

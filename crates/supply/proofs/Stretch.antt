@@ -17,9 +17,9 @@ use Rattle.below.specs.Lists.{sumOver}
 use Rattle.doses.specs.Doses.{covers, positionOf, applies, dosesOfPeriod, dosesOn}
 use Rattle.pause.specs.Pauses.{isPaused}
 use Rattle.pause.specs.declared.Pause.{Pause}
-use Rattle.plan.specs.Fields.{intervalOf, firstOf, isMarked}
+use Rattle.plan.specs.Fields.{intervalOf, firstOf, isMarked, headerOf}
 use Rattle.plan.specs.Periods.{blocksOf, blockAt, isPeriod, dosesOf, doseIn, hasUnmarked, hasMarked, classBy, classOf, fixed, mixed}
-use Rattle.supply.specs.Capped.{cap, Sorted, supplies, needAt, Orderly, Steady, dueOn, positionBehind, Stands, Listed, Known}
+use Rattle.supply.specs.code.Capped.{cap, Sorted, supplies, needAt, Orderly, Steady, dueOn, positionBehind, Stands, Listed, Known}
 use Rattle.supply.specs.Need.{chosen, needOn, isSupplied}
 use Rattle.supply.specs.declared.today.Today.{Today}
 use Rattle.supply.proofs.Placing.{position-behind}
@@ -67,7 +67,7 @@ module _ (choice : ℕ) (p : List ℕ) where
         (λ (t : covers p d b ≡ false). rw t)
         (bool-cases (covers p d b))
 
-    block-in : (b : ℕ) → supplies p d b ≡ true → blockTerm b ≡ needAt choice p b (positionOf (blockAt p b) d)
+    block-in : (b : ℕ) → supplies p d b ≡ true → blockTerm b ≡ needAt choice p b (positionOf (headerOf (blockAt p b)) d)
     block-in b h = let t : covers p d b ≡ true = and-both _ _ h .0 in rw t (period-sum choice p d b)
 
     module _ (o : Orderly p) where
@@ -81,7 +81,7 @@ module _ (choice : ℕ) (p : List ℕ) where
 
       -- the period at block b is one that has it, so it is the only one
       pub one-needs : (b : ℕ) → b < blocksOf p → supplies p d b ≡ true → ((c : ℕ) → c < b → supplies p d c ≡ false) →
-          sumOver (chosen choice) (dosesOn p d) ≡ needAt choice p b (positionOf (blockAt p b) d)
+          sumOver (chosen choice) (dosesOn p d) ≡ needAt choice p b (positionOf (headerOf (blockAt p b)) d)
       one-needs b l h before =
           plan-sum ∙ sum-only blockTerm (blocksOf p) b l
           (λ c q. block-out c (before c q))
@@ -101,7 +101,7 @@ module _ (choice : ℕ) (p : List ℕ) (o : Orderly p) {d u : ℕ} (w : (b : ℕ
 
   -- one has them
   pub in-needs : {b : ℕ} → b ≡ firstBelow (blocksOf p) (supplies p d) → b < blocksOf p →
-      (e : ℕ) → d ≤ e → e ≤ u → dueOn choice p e ≡ needAt choice p b (positionOf (blockAt p b) e)
+      (e : ℕ) → d ≤ e → e ≤ u → dueOn choice p e ≡ needAt choice p b (positionOf (headerOf (blockAt p b)) e)
   in-needs {b} f l e h m =
       let x = rw (← f) at (first-facts (supplies p d) (blocksOf p)) in
       one-needs choice p e o b l (supplied-same b l e h m ∙ x .here l)
@@ -122,7 +122,7 @@ found-began p d {b} f l =
     leb-true _ _ (and-both _ _ (and-both (isPeriod p b) _ c .1) .0)
 
 -- with interval 1 each day has position 1
-every-day : (r : List ℕ) (d e : ℕ) → intervalOf r ≡ 1 → positionOf r e ≡ positionOf r d
+every-day : (r : List ℕ) (d e : ℕ) → intervalOf r ≡ 1 → positionOf (headerOf r) e ≡ positionOf (headerOf r) d
 unfolding positionOf
 every-day r d e i = rw i (omega arith)
 
@@ -142,8 +142,8 @@ module _ (choice : ℕ) (p : List ℕ) {d : ℕ} {t : Today} where
       }
 
   -- days of a period
-  pub known-in : {b u : ℕ} → Stands choice p (positionOf (blockAt p b) d) b u (not (eqb (intervalOf (blockAt p b)) 1)) t × (t .listed ≤ 256) → d ≤ u → firstOf (blockAt p b) ≤ d →
-      ((e : ℕ) → d ≤ e → e ≤ u → dueOn choice p e ≡ needAt choice p b (positionOf (blockAt p b) e)) → Known choice p d t
+  pub known-in : {b u : ℕ} → Stands choice p (positionOf (headerOf (blockAt p b)) d) b u (not (eqb (intervalOf (blockAt p b)) 1)) t × (t .listed ≤ 256) → d ≤ u → firstOf (blockAt p b) ≤ d →
+      ((e : ℕ) → d ≤ e → e ≤ u → dueOn choice p e ≡ needAt choice p b (positionOf (headerOf (blockAt p b)) e)) → Known choice p d t
   known-in {b} {u} (s, f) l g h =
       record {
         today = s .need-is ∙ ap (min cap) (sym (h d (omega arith) l));
@@ -164,7 +164,7 @@ module _ (choice : ℕ) (p : List ℕ) {d : ℕ} {t : Today} where
     known-moves : t .varies ≡ true →
         Stands choice p (positionBehind (t .interval) (t .place)) (t .b) (t .until) true r × (r .listed ≡ t .listed) → Known choice p (d + 1) r
     known-moves v (w, f) =
-        let x : positionBehind (t .interval) (t .place) ≡ positionOf (blockAt p (t .b)) (d + 1) =
+        let x : positionBehind (t .interval) (t .place) ≡ positionOf (headerOf (blockAt p (t .b))) (d + 1) =
         rw (k .placed v .interval-is, k .place-is v) (sym (position-behind (blockAt p (t .b)) d (k .began v))) in
         let s = rw x at w in
         record {

@@ -9,7 +9,7 @@ use verdict::Answer;
 use verdict::refusal_of;
 use verdict::verdict;
 ghost use mathlib.Core.Path.{_≡_};
-ghost use Rattle.pause.specs.Kept.{areOutIn};
+ghost use Rattle.pause.specs.Pauses.{areOutOf};
 ghost use Rattle.verdict.specs.Verdict.{verdictOf};
 ghost use Rattle.supply.specs.Supply.{judgedOf, passedOn, packedSupplyOf};
 
@@ -34,7 +34,7 @@ fn supply_from(
 // How far a pack lasts, with the pauses by value. Only for `supply_of`: a count and records that do not belong together mean
 // nothing in document 01.
 pub(crate) fn supply_kept(plan: &[u8], start: u32, pack: u64, choice: u32, pauses: Pauses) -> Supply
-    ensures { λ r. ⌜ r ≡ passedOn (verdictOf (now (plan .entry))) (judgedOf (now (plan .entry)) start pack choice (areOutIn pauses) (pauses .at)) ⌝ }
+    ensures { λ r. ⌜ r ≡ passedOn (verdictOf (now (plan .entry))) (judgedOf (now (plan .entry)) start pack choice (areOutOf (pauses .count) (pauses .at)) (pauses .at)) ⌝ }
 {
     let out = are_out(pauses);
     let at = pauses.at;

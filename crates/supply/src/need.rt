@@ -8,7 +8,7 @@ ghost use mathlib.Core.Path.{_≡_};
 ghost use Prim.Native.Nat.{_+_, _≤_, _<_, min};
 ghost use Rattle.plan.specs.Periods.{dosesOf, doseIn};
 ghost use Rattle.supply.specs.Need.{chosen};
-ghost use Rattle.supply.specs.Capped.{cap, Sorted, From, lowestAt, needAt};
+ghost use Rattle.supply.specs.code.Capped.{cap, Sorted, From, lowestAt, needAt};
 
 // One more than the largest pack: a need of that much is as good as any larger one.
 const CAP: u64 = 1000000000001;

@@ -7,7 +7,7 @@ use crate::today::Today;
 ghost use mathlib.Core.Path.{_≡_};
 ghost use mathlib.Core.Bool.{true, false};
 ghost use Prim.Native.Nat.{_≤_};
-ghost use Rattle.supply.specs.Capped.{From, lowestAt, Placed, positionBehind, Stands, Listed};
+ghost use Rattle.supply.specs.code.Capped.{From, lowestAt, Placed, positionBehind, Stands, Listed};
 
 // What each position below `listed` needs.
 pub(crate) fn needs_of(plan: &[u8], choice: u32, t: Today) -> [u64; 256]

@@ -17,10 +17,10 @@ ghost use Prim.Native.Nat.{_≤_};
 ghost use lib.Dec.{eqb};
 ghost use Rattle.below.specs.Below.{firstBelow};
 ghost use Rattle.doses.specs.Doses.{positionOf};
-ghost use Rattle.plan.specs.Fields.{intervalOf};
+ghost use Rattle.plan.specs.Fields.{intervalOf, headerOf};
 ghost use Rattle.plan.specs.Periods.{blocksOf, blockAt};
 ghost use Rattle.supply.specs.Need.{isSupplied};
-ghost use Rattle.supply.specs.Capped.{Sorted, supplies, Orderly, Stands, Known};
+ghost use Rattle.supply.specs.code.Capped.{Sorted, supplies, Orderly, Stands, Known};
 
 // What the doses of a day need, pauses apart. Up to day `until` the days are in the same periods. Where what is due varies among
 // them, they are the days of the fixed or mixed period at block b, in rounds of `interval` days, and the day at hand is at position
@@ -105,7 +105,7 @@ fn listed_of(interval: u16) -> usize
 // A day of the period at block b. With interval 1 each day has position 1, and needs what the day ahead of it needs.
 fn in_period(plan: &[u8], choice: u32, day: u32, until: u32, b: u8) -> Today
     requires { ⌜ Sorted (now plan) b ⌝ }
-    ensures { λ r. ⌜ Stands choice (now (plan .entry)) (positionOf (blockAt (now (plan .entry)) b) day) b until (not (eqb (intervalOf (blockAt (now (plan .entry)) b)) 1)) r × (r .listed ≤ 256) ⌝ }
+    ensures { λ r. ⌜ Stands choice (now (plan .entry)) (positionOf (headerOf (blockAt (now (plan .entry)) b)) day) b until (not (eqb (intervalOf (blockAt (now (plan .entry)) b)) 1)) r × (r .listed ≤ 256) ⌝ }
 {
     let block = block_of(plan, b as u16);
     let interval = interval_of(block);

@@ -13,10 +13,10 @@ ghost use lib.Dec.{leb};
 ghost use Rattle.doses.specs.Doses.{covers};
 ghost use Rattle.pause.specs.Pauses.{holds, isPaused};
 ghost use Rattle.plan.specs.Periods.{blocksOf};
-ghost use Rattle.supply.specs.Capped.{Orderly, Steady, Told};
+ghost use Rattle.supply.specs.code.Capped.{Orderly, Steady, Told};
 
 // No change lies ahead.
-const NEVER: u32 = 4294967295;
+const NEVER: u32 = Day::OPEN.number;
 
 pub(crate) fn least(x: u32, y: u32) -> u32
     ensures { λ r. ⌜ r ≡ min x y ⌝ }

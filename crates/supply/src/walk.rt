@@ -5,6 +5,7 @@ use crate::next::next_day;
 use crate::today::is_supplied;
 use crate::today::on_day;
 use crate::until::spell_on;
+use day::Day;
 use pause::Pause;
 use plan::block_of;
 use plan::last_of;
@@ -12,10 +13,10 @@ ghost use mathlib.Core.Path.{_≡_};
 ghost use Prim.Native.Nat.{_+_, _-_, _≤_, _<_, max};
 ghost use mathlib.Core.Bool.{cond};
 ghost use lib.Dec.{eqb};
-ghost use Rattle.day.specs.Days.{openMark};
+ghost use Rattle.day.specs.Days.{lastNumber, openMark};
 ghost use Rattle.supply.specs.Need.{needOn, stopDay, hasStop};
 ghost use Rattle.supply.specs.Supply.{lastingOf};
-ghost use Rattle.supply.specs.Capped.{cap, Orderly};
+ghost use Rattle.supply.specs.code.Capped.{cap, Orderly};
 
 // The stop day, if there is one.
 pub(crate) struct Stop {
@@ -49,18 +50,18 @@ pub(crate) fn stop_of(plan: &[u8]) -> Stop
 
 // Why the walk ended on the stop day.
 fn reason_at(stop: u32) -> u8
-    ensures { λ r. ⌜ r ≡ cond (eqb stop 73048) 3 2 ⌝ }
+    ensures { λ r. ⌜ r ≡ cond (eqb stop lastNumber) 3 2 ⌝ }
 {
-    if stop == 73048 { 3 } else { 2 }
+    if stop == Day::LAST.number { 3 } else { 2 }
 }
 
 // The last of n days from the start on: the open mark where there is none.
 fn last_of_days(start: u32, n: u32) -> u32
-    requires { ⌜ (start ≤ 73048) × (n ≤ 73049) ⌝ }
+    requires { ⌜ (start ≤ lastNumber) × (n ≤ lastNumber + 1) ⌝ }
     ensures { λ r. ⌜ r ≡ cond (eqb n 0) openMark (start + n - 1) ⌝ }
 {
     if n == 0 {
-        return 4294967295;
+        return Day::OPEN.number;
     }
     start + n - 1
 }
@@ -85,7 +86,7 @@ pub(crate) fn lasting(
     pack: u64,
 ) -> Lasting
     requires { ⌜ Orderly (now plan) ⌝ }
-    requires { ⌜ (start ≤ stop) × (stop ≤ 73048) × (pack < cap) ⌝ }
+    requires { ⌜ (start ≤ stop) × (stop ≤ lastNumber) × (pack < cap) ⌝ }
     ensures { λ r. ⌜ r ≡ lastingOf (needOn choice (now (plan .entry)) at) start stop pack ⌝ }
 {
     let mut n: u32 = 0;

@@ -12,9 +12,9 @@ use Rattle.below.proofs.Search.{any-some, any-not}
 use Rattle.below.proofs.Tests.{or-either, not-true-false, true-not-false}
 use Rattle.day.specs.Days.{lastNumber}
 use Rattle.plan.specs.Periods.{blocksOf, isPeriod, classOf}
-use Rattle.verdict.specs.Coverage.{isDosed, bare, inGroup, meets, holeAt, hole, holes}
-use Rattle.verdict.specs.Groups.{isMember, coverOf}
-use Rattle.verdict.specs.Walks.{isLike, classWith}
+use Rattle.verdict.specs.Coverage.{isDosed, bare, inGroup, meets, holeAt, hole, holes, isMember}
+use Rattle.verdict.specs.code.Groups.{coverOf}
+use Rattle.verdict.specs.code.Walks.{isLike, classWith}
 use Rattle.verdict.specs.declared.Group.the-variants.{All, Fixed, Need}
 use Rattle.verdict.specs.declared.Group.{Group}
 use Rattle.verdict.proofs.Meeting.{Meets, meets-some, some-meets, unmet, hole-parts, parts-hole}

@@ -14,10 +14,9 @@ use Rattle.below.proofs.Search.{any-some, all-at-2}
 use Rattle.below.proofs.Tests.{and-both, or-either, or-neither, not-true-false, true-not-false}
 use Rattle.plan.specs.Fields.{firstOf, lastOf}
 use Rattle.plan.specs.Periods.{blocksOf, blockAt, isPeriod, classOf}
-use Rattle.verdict.specs.Coverage.{hasDays, mayShare, sharesWith, shares, inGroup}
-use Rattle.verdict.specs.Groups.{isMember}
-use Rattle.verdict.specs.Ready.{Classed}
-use Rattle.verdict.specs.Walks.{spanOf, freeOn}
+use Rattle.verdict.specs.Coverage.{hasDays, mayShare, sharesWith, shares, inGroup, isMember}
+use Rattle.verdict.specs.code.Ready.{Classed}
+use Rattle.verdict.specs.code.Walks.{spanOf, freeOn}
 use Rattle.verdict.specs.declared.Group.the-variants.{All, FixedOrEmpty, Need}
 use Rattle.verdict.specs.declared.Group.{Group}
 use Rattle.verdict.specs.declared.sharing.Free.{Free}

@@ -14,9 +14,9 @@ use Rattle.below.proofs.Tests.{bool-iff, and-both, both-and, le-or-lt, true-not
 use Rattle.day.specs.Days.{lastNumber}
 use Rattle.plan.specs.Fields.{firstOf, lastOf}
 use Rattle.plan.specs.Periods.{blocksOf, blockAt}
-use Rattle.verdict.specs.Coverage.{meets, holeAt, hole}
-use Rattle.verdict.specs.Groups.{isMember, coverOf, holeAfter}
-use Rattle.verdict.specs.Ready.{Dated}
+use Rattle.verdict.specs.Coverage.{meets, holeAt, hole, isMember}
+use Rattle.verdict.specs.code.Groups.{coverOf, holeAfter}
+use Rattle.verdict.specs.code.Ready.{Dated}
 use Rattle.verdict.specs.declared.Group.{Group}
 use Rattle.verdict.proofs.Meeting.{Meets, meets-some, some-meets, unmet, Hole, hole-parts, parts-hole}
 use Rattle.verdict.proofs.Members.{by-test, member-period, member-wide}

@@ -22,7 +22,7 @@ use Rattle.refusal.specs.Order.{lowestBlock}
 use Rattle.refusal.specs.Refusals.{ruleAt}
 use Rattle.refusal.specs.declared.Refusal.{Refusal}
 use Rattle.verdict.specs.Coverage.{bare, shares, holes}
-use Rattle.verdict.specs.Judging.{Lowest}
+use Rattle.verdict.specs.code.Judging.{Lowest}
 use Rattle.verdict.specs.Verdict.{planLimit, breaks, firstRule, firstBlock, verdictOf}
 use Rattle.verdict.specs.declared.Answer.the-variants.{Accepted, Broken}
 

@@ -10,8 +10,7 @@ use Rattle.below.proofs.Tests.{and-both, true-not-false}
 use Rattle.day.specs.Days.{lastNumber}
 use Rattle.plan.specs.Fields.{firstOf, lastOf}
 use Rattle.plan.specs.Periods.{blocksOf, blockAt, isPeriod, classOf}
-use Rattle.verdict.specs.Coverage.{inGroup, hasDays, meetsAt, meets, holeAt}
-use Rattle.verdict.specs.Groups.{isMember}
+use Rattle.verdict.specs.Coverage.{inGroup, hasDays, meetsAt, meets, holeAt, isMember}
 use Rattle.verdict.specs.declared.Group.{Group}
 
 -- the period at block b is one of the group, and has a day from lo to hi

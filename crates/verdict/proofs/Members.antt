@@ -13,9 +13,9 @@ use Rattle.below.proofs.Search.{any-hit}
 use Rattle.below.proofs.Tests.{bool-cases, and-both, both-and, and-false, or-true, true-not-false, not-true-false}
 use Rattle.day.specs.Days.{closedDay, lastNumber, openMark}
 use Rattle.plan.specs.Periods.{blocksOf, isPeriod, classBy, classOf, hasUnmarked, hasMarked}
-use Rattle.verdict.specs.Coverage.{isDosed, inGroup, bare}
-use Rattle.verdict.specs.Groups.{isMember, coverOf}
-use Rattle.verdict.specs.Ready.{Classed}
+use Rattle.verdict.specs.Coverage.{isDosed, inGroup, bare, isMember}
+use Rattle.verdict.specs.code.Groups.{coverOf}
+use Rattle.verdict.specs.code.Ready.{Classed}
 use Rattle.verdict.specs.declared.Group.the-variants.{All, Fixed, Need, FixedOrEmpty, NeedOrEmpty}
 use Rattle.verdict.specs.declared.Group.{Group}
 

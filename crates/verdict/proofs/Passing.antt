@@ -21,8 +21,9 @@ use Rattle.block.specs.Bytes.{byteAt}
 use Rattle.plan.specs.Periods.{blocksOf, blockAt, isPeriod, classOf}
 use Rattle.refusal.specs.Refusals.{ruleAt}
 use Rattle.verdict.specs.Coverage.{bare, shares, holes}
-use Rattle.verdict.specs.Judging.{Judged, Unbroken, classAt, classesBy, HasClasses}
-use Rattle.verdict.specs.Ready.{Classed, Ready}
+use Rattle.verdict.specs.Classes.{classAt, classesBy}
+use Rattle.verdict.specs.code.Judging.{Judged, Unbroken, HasClasses}
+use Rattle.verdict.specs.code.Ready.{Classed, Ready}
 use Rattle.verdict.specs.Verdict.{planLimit, breaks, verdictOf}
 use Rattle.verdict.specs.declared.Answer.the-variants.{Accepted, Broken}
 use Rattle.verdict.specs.declared.Answer.{Answer}

@@ -13,9 +13,9 @@ use Rattle.below.proofs.Tests.{and-both, or-neither, le-or-lt, true-not-false, 
 use Rattle.day.specs.Days.{lastNumber}
 use Rattle.plan.specs.Fields.{firstOf, lastOf}
 use Rattle.plan.specs.Periods.{blocksOf, blockAt, isPeriod, classOf}
-use Rattle.verdict.specs.Coverage.{inGroup, meets, holeAt, hole}
-use Rattle.verdict.specs.Groups.{isMember, coverOf}
-use Rattle.verdict.specs.Walks.{spanOf, reachOn}
+use Rattle.verdict.specs.Coverage.{inGroup, meets, holeAt, hole, isMember}
+use Rattle.verdict.specs.code.Groups.{coverOf}
+use Rattle.verdict.specs.code.Walks.{spanOf, reachOn}
 use Rattle.verdict.specs.declared.Group.{Group}
 use Rattle.verdict.specs.declared.holes.Reach.{Reach}
 use Rattle.verdict.proofs.Meeting.{meets-some, some-meets, hole-parts}

@@ -47,6 +47,10 @@ inGroup Need c = eqb c need || eqb c mixed
 inGroup FixedOrEmpty c = eqb c empty || (eqb c fixed || eqb c mixed)
 inGroup NeedOrEmpty c = eqb c empty || (eqb c need || eqb c mixed)
 
+-- block b begins a period of the group
+unfoldable pub isMember : Group → List ℕ → ℕ → Bool
+isMember g p b = isPeriod p b && inGroup g (classOf p b)
+
 -- block b begins a period of the group that has a day from lo to hi
 unfoldable pub meetsAt : Group → List ℕ → ℕ → ℕ → ℕ → Bool
 meetsAt g p lo hi b = isPeriod p b && hasDays p lo hi b && inGroup g (classOf p b)

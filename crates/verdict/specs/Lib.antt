@@ -1,7 +1,5 @@
 -- Document 01, "Verdict": rules 15 to 17, the order of all rules, and the answer.
 pub mod Coverage
-pub mod Ready
-pub mod Groups
-pub mod Walks
 pub mod Verdict
-pub mod Judging
+pub mod Classes
+pub mod code

@@ -11,10 +11,9 @@ ghost use mathlib.Core.Bool.{true};
 ghost use Prim.Native.Nat.{_+_, _<_, max};
 ghost use Rattle.plan.specs.Fields.{lastOf};
 ghost use Rattle.plan.specs.Periods.{blocksOf, isPeriod};
-ghost use Rattle.verdict.specs.Coverage.{bare, hasDays, inGroup};
-ghost use Rattle.verdict.specs.Groups.{isMember};
-ghost use Rattle.verdict.specs.Ready.{Classed};
-ghost use Rattle.verdict.specs.Walks.{spanOf};
+ghost use Rattle.verdict.specs.Coverage.{bare, hasDays, inGroup, isMember};
+ghost use Rattle.verdict.specs.code.Ready.{Classed};
+ghost use Rattle.verdict.specs.code.Walks.{spanOf};
 
 // Rule 15. A period with doses, which a plan mostly begins with, ends the search.
 pub(crate) fn is_bare(plan: &[u8], cs: &[u8; 32]) -> bool

@@ -13,9 +13,9 @@ ghost use mathlib.Core.Bool.{true, false};
 ghost use Prim.Native.Nat.{_<_};
 ghost use Rattle.plan.specs.Periods.{blocksOf};
 ghost use Rattle.verdict.specs.Coverage.{meetsAt, meets, holeAt, hole, holes};
-ghost use Rattle.verdict.specs.Groups.{coverOf, holeAfter};
-ghost use Rattle.verdict.specs.Ready.{Classed, Ready};
-ghost use Rattle.verdict.specs.Walks.{reachOn};
+ghost use Rattle.verdict.specs.code.Groups.{coverOf, holeAfter};
+ghost use Rattle.verdict.specs.code.Ready.{Classed, Ready};
+ghost use Rattle.verdict.specs.code.Walks.{reachOn};
 
 // The group that must have the days between the first and last day of the group g.
 fn cover_of(g: Group) -> Group

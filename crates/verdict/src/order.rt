@@ -16,8 +16,9 @@ ghost use mathlib.Core.Path.{_≡_};
 ghost use Prim.Native.Nat.{_+_, _≤_, _<_};
 ghost use lib.ListN.{replicate};
 ghost use Rattle.plan.specs.Periods.{blocksOf};
-ghost use Rattle.verdict.specs.Ready.{Ready};
-ghost use Rattle.verdict.specs.Judging.{Judged, Unbroken, HasClasses, classesBy};
+ghost use Rattle.verdict.specs.code.Ready.{Ready};
+ghost use Rattle.verdict.specs.Classes.{classesBy};
+ghost use Rattle.verdict.specs.code.Judging.{Judged, Unbroken, HasClasses};
 ghost use Rattle.verdict.specs.Verdict.{verdictOf, refusalOf};
 
 // What the pass over the periods has found: the lowest broken rule from 5 to 14, 15 where there is none, with its first

@@ -14,8 +14,8 @@ ghost use Prim.Native.Nat.{_<_};
 ghost use Rattle.below.specs.Below.{firstBelow};
 ghost use Rattle.plan.specs.Periods.{blocksOf, isPeriod};
 ghost use Rattle.verdict.specs.Coverage.{mayShare, sharesWith, shares};
-ghost use Rattle.verdict.specs.Ready.{Classed};
-ghost use Rattle.verdict.specs.Walks.{freeOn};
+ghost use Rattle.verdict.specs.code.Ready.{Classed};
+ghost use Rattle.verdict.specs.code.Walks.{freeOn};
 
 // A walk over the periods of a group: `day` is the first day behind all of them so far, and each began behind those ahead
 // of it, unless the walk is lost.

@@ -11,8 +11,8 @@ ghost use mathlib.Core.Bool.{true, false};
 ghost use Prim.Native.Nat.{ℕ, _<_};
 ghost use Rattle.plan.specs.Periods.{blocksOf};
 ghost use Rattle.verdict.specs.Coverage.{bare, shares, holes};
-ghost use Rattle.verdict.specs.Ready.{Classed};
-ghost use Rattle.verdict.specs.Walks.{isLike, classWith};
+ghost use Rattle.verdict.specs.code.Ready.{Classed};
+ghost use Rattle.verdict.specs.code.Walks.{isLike, classWith};
 
 // May a period of class c stand beside those so far, whose class is this one?
 fn is_like(class: u8, c: u8) -> bool

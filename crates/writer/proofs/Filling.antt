@@ -7,11 +7,11 @@ use native.Mathlib.Omega.{arith}
 use lib.ListN.{length, drop, replicate, length-append, length-replicate, replicate-append-replicate}
 use lib.Seq.{take-at, drop-at, drop-append-add}
 use Rattle.block.specs.Bytes.{bytesOf, put}
-use Rattle.block.proofs.Front.{Front, front-more, front-all}
 use Rattle.block.proofs.Put.{put-in}
 use Rattle.plan.specs.declared.Dose.{Dose}
-use Rattle.layout.specs.Layout.{filled, headBytes, periodStart, continuationStart, doseBytes}
-use Rattle.layout.specs.declared.Head.{Head}
+use Rattle.plan.specs.Fields.{doseBytes}
+use Rattle.layout.specs.Layout.{filled, headBytes, periodStart, continuationStart}
+use Rattle.plan.specs.declared.Head.{Head}
 use Rattle.plan.specs.declared.Header.{Header}
 
 -- a head, field by field into a cleared block
@@ -27,19 +27,6 @@ period-filled q = refl
 pub continuation-filled : put (replicate 512 0) 0 (3 ∷ 0 ∷ []) ≡ filled (continuationStart 0)
 unfolding put continuationStart filled
 continuation-filled = refl
-
--- a dose, field by field over any record
-pub dose-filled : (s : List ℕ) (d : Dose) → length s ≡ 24 → put (put (put (put (put (put s 0 (bytesOf 2 (d .day))) 2 (d .kind ∷ d .mark ∷ [])) 4 (bytesOf 2 (d .minute))) 6 (0 ∷ 0 ∷ [])) 8 (bytesOf 8 (d .low))) 16 (bytesOf 8 (d .high)) ≡ doseBytes d
-unfolding bytesOf doseBytes
-dose-filled s d n =
-    let none : Front 24 [] s = record { front = refl; whole = n } in
-    let day = front-more none 0 (bytesOf 2 (d .day)) refl (omega arith) in
-    let kind = front-more day 2 (d .kind ∷ d .mark ∷ []) refl (omega arith) in
-    let minute = front-more kind 4 (bytesOf 2 (d .minute)) refl (omega arith) in
-    let zeros = front-more minute 6 (0 ∷ 0 ∷ []) refl (omega arith) in
-    let low = front-more zeros 8 (bytesOf 8 (d .low)) refl (omega arith) in
-    let high = front-more low 16 (bytesOf 8 (d .high)) refl (omega arith) in
-    front-all high refl
 
 -- bytes put behind those that a block holds so far
 pub front-filled : (bs vs : List ℕ) → length bs + length vs ≤ 512 → put (filled bs) (length bs) vs ≡ filled (bs ++ vs)

@@ -15,13 +15,15 @@ use Rattle.block.specs.Bytes.{bytesOf, put}
 use Rattle.block.specs.Sums.{sealed}
 use Rattle.block.proofs.Put.{length-put}
 use Rattle.plan.specs.declared.Dose.{Dose}
-use Rattle.layout.specs.Layout.{Written, filled, headBytes, periodStart, continuationStart, doseBytes, periodBlock, blocksFor, bodyOf, laidOut}
-use Rattle.layout.specs.declared.Head.{Head}
+use Rattle.plan.specs.Fields.{doseBytes}
+use Rattle.layout.specs.Layout.{Written, filled, headBytes, periodStart, continuationStart, periodBlock, blocksFor, bodyOf, laidOut}
+use Rattle.plan.specs.declared.Head.{Head}
 use Rattle.plan.specs.declared.Header.{Header}
 use Rattle.writer.specs.declared.Place.{Place}
 use Rattle.writer.specs.Steps.{hasRoom, hasBegun, begun, begunPlace, periodAdded, periodPlace, dosePut, doseAdded, dosePlace, finished, finishedLength}
-use Rattle.writer.specs.Holds.{lying, inLast, lastDoses, Holds}
-use Rattle.layout.proofs.Blocks.{length-filled, length-head, length-period-start, length-continuation-start, length-dose, length-period, length-laid}
+use Rattle.writer.specs.code.Holds.{lying, inLast, lastDoses, Holds}
+use Rattle.layout.proofs.Blocks.{length-filled, length-head, length-period-start, length-continuation-start, length-period, length-laid}
+use Rattle.plan.proofs.DoseRecord.{length-dose}
 use Rattle.writer.proofs.Room.{is-room, is-begun}
 use Rattle.writer.proofs.Lying.{Whole, Whole.none, Whole.more, whole-append, whole-list, length-lying, lying-more, lying-last, lying-first, lying-sealed}
 use Rattle.writer.proofs.Laying.{periodOf, whole-body, whole-plan, body-last, length-body-last, empty-block, blocks-are, one-dose-more, with-room, without-room, ahead-same, block-more, next-block}
@@ -100,10 +102,9 @@ dose-lying {bs} u q ds d old =
     let m = length ds % 20 in
     let b = periodBlock (periodOf q ds) (length ds / 20) in
     let c = put b (24 + m * 24) (doseBytes d) in
-    let i : length bs * 512 + 24 + m * 24 ≡ length bs * 512 + (24 + m * 24) = omega arith in
     let n : length b ≡ 512 = length-period (periodOf q ds) (length ds / 20) in
     let k : length c ≡ length b = length-put b (24 + m * 24) (doseBytes d) in
-    rw (i, lying-last old u b (doseBytes d) (24 + m * 24) (omega (arith, length-dose d)), lying-last old u c ((m + 1) ∷ []) 1 (omega arith), block-more q ds d)
+    rw (lying-last old u b (doseBytes d) (24 + m * 24) (omega (arith, length-dose d)), lying-last old u c ((m + 1) ∷ []) 1 (omega arith), block-more q ds d)
 
 -- the blocks ahead of the one that the next dose of the last period w goes into
 module _ (h : Head) (ws : List Written) (w : Written) where

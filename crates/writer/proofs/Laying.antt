@@ -16,11 +16,13 @@ use Rattle.below.proofs.Tests.{le-or-lt}
 use Rattle.block.specs.Bytes.{put}
 use Rattle.block.proofs.Put.{put-in}
 use Rattle.plan.specs.declared.Dose.{Dose}
-use Rattle.layout.specs.Layout.{Written, filled, headBytes, periodStart, continuationStart, doseBytes, dosesHere, periodBlock, blocksFor, bodyOf}
-use Rattle.layout.specs.declared.Head.{Head}
+use Rattle.plan.specs.Fields.{doseBytes}
+use Rattle.layout.specs.Layout.{Written, filled, headBytes, periodStart, continuationStart, dosesHere, periodBlock, blocksFor, bodyOf}
+use Rattle.plan.specs.declared.Head.{Head}
 use Rattle.plan.specs.declared.Header.{Header}
-use Rattle.writer.specs.Holds.{inLast}
-use Rattle.layout.proofs.Blocks.{length-filled, length-head, length-period-start, length-continuation-start, length-dose, length-doses, length-period}
+use Rattle.writer.specs.code.Holds.{inLast}
+use Rattle.layout.proofs.Blocks.{length-filled, length-head, length-period-start, length-continuation-start, length-doses, length-period}
+use Rattle.plan.proofs.DoseRecord.{length-dose}
 use Rattle.writer.proofs.Filling.{front-filled}
 use Rattle.writer.proofs.Lying.{Whole, Whole.none, Whole.more, whole-append, whole-list}
 

@@ -13,7 +13,7 @@ use Rattle.block.specs.Sums.{sealed}
 use Rattle.block.proofs.Put.{put-in}
 use Rattle.block.proofs.Sealing.{length-sealed}
 use Rattle.plan.specs.Periods.{blockAt}
-use Rattle.writer.specs.Holds.{lying}
+use Rattle.writer.specs.code.Holds.{lying}
 use Rattle.writer.specs.Steps.{sealedFrom}
 
 -- every one is a whole block

@@ -2,7 +2,7 @@
 use Prim.Native.Nat.{ℕ, suc, _+_, _-_, _*_, _≤_, _<_}
 use mathlib.Core.Bool.{true, false}
 use mathlib.Core.List.{List, [], _∷_}
-use mathlib.Core.Path.{_≡_, refl, sym}
+use mathlib.Core.Path.{_≡_, refl, sym, _∙_}
 use native.Mathlib.Omega.{arith}
 use lib.ListN.{length, take, drop, length-drop}
 use lib.Seq.{length-take-le}
@@ -11,16 +11,19 @@ use borrow.Rule.Slice.PartMut.{putMid}
 use Rattle.block.specs.Bytes.{put}
 use Rattle.block.specs.Sums.{sealed}
 use Rattle.block.proofs.Put.{put-out, length-put, part-put}
+use Rattle.block.proofs.Puts.{put-all}
 use Rattle.block.proofs.Sealing.{length-sealed}
 use Rattle.plan.specs.Periods.{blockAt}
 use Rattle.plan.specs.declared.Dose.{Dose}
-use Rattle.layout.specs.Layout.{filled, headBytes, periodStart, continuationStart, doseBytes}
-use Rattle.layout.specs.declared.Head.{Head}
+use Rattle.plan.specs.Fields.{doseBytes, recordStart}
+use Rattle.layout.specs.Layout.{filled, headBytes, periodStart, continuationStart}
+use Rattle.plan.specs.declared.Head.{Head}
 use Rattle.plan.specs.declared.Header.{Header}
 use Rattle.writer.specs.declared.Place.{Place}
 use Rattle.writer.specs.Steps.{hasRoom, hasBegun, begun, begunPlace, periodAdded, periodPlace, dosePut, doseAdded, dosePlace, sealedFrom, finished, finishedLength}
 use Rattle.writer.proofs.Room.{room-is}
-use Rattle.layout.proofs.Blocks.{length-filled, length-head, length-period-start, length-continuation-start, length-dose}
+use Rattle.layout.proofs.Blocks.{length-filled, length-head, length-period-start, length-continuation-start}
+use Rattle.plan.proofs.DoseRecord.{length-dose}
 
 -- the buffer's part from block b on came back as the block p
 pub block-back : (out p : List ℕ) (b : ℕ) → (b + 1) * 512 ≤ length out → length p ≡ 512 → putMid (b * 512) (b * 512 + 512 - b * 512) out p ≡ put out (b * 512) p
@@ -52,13 +55,18 @@ module _ (out : List ℕ) (at : Place) (q : Header) where
       rw e (g, refl)
 
 -- a dose's record came back, and is counted
-pub dose-put-is : (out : List ℕ) (b n : ℕ) (d : Dose) → (b + 1) * 512 ≤ length out → n < 20 → (p : List ℕ) → p ≡ doseBytes d → put (putMid (b * 512 + 24 + n * 24) (b * 512 + 24 + n * 24 + 24 - (b * 512 + 24 + n * 24)) out p) (b * 512 + 1) ((n + 1) ∷ []) ≡ dosePut out b n d
+pub dose-put-is : (out : List ℕ) (b n : ℕ) (d : Dose) → (b + 1) * 512 ≤ length out → n < 20 → {a : ℕ} → a ≡ recordStart n → (p : List ℕ) →
+    p ≡ put (take (b * 512 + a + 24 - (b * 512 + a)) (drop (b * 512 + a) out)) 0 (doseBytes d) →
+    put (putMid (b * 512 + a) (b * 512 + a + 24 - (b * 512 + a)) out p) (b * 512 + 1) ((n + 1) ∷ []) ≡ dosePut out b n d
 unfolding dosePut
-dose-put-is out b n d h l p e =
-    let a = b * 512 + 24 + n * 24 in
-    let g : putMid a (a + 24 - a) out (doseBytes d) ≡ put out a (doseBytes d) =
-    part-put out (doseBytes d) a (a + 24) (omega arith) (omega arith) (omega (arith, length-dose d)) in
-    rw (e, g)
+dose-put-is out b n d h l {a} z p e =
+    let i = b * 512 + a in
+    let q = take (i + 24 - i) (drop i out) in
+    let m : length q ≡ 24 = length-take-le (i + 24 - i) (drop i out) (rw length-drop (omega arith)) ∙ omega arith in
+    let g : putMid i (i + 24 - i) out (doseBytes d) ≡ put out i (doseBytes d) =
+    part-put out (doseBytes d) i (i + 24) (omega arith) (omega arith) (omega (arith, length-dose d)) in
+    let w : put q 0 (doseBytes d) ≡ doseBytes d = put-all q (doseBytes d) (length-dose d ∙ sym m) in
+    rw (e, w, g, z) refl
 
 module _ (out : List ℕ) (at : Place) (d : Dose) where
   pub dose-none : hasBegun out (at .blocks) 2 ≡ false → (out ≡ doseAdded out at d) × (at ≡ dosePlace out at)

@@ -9,8 +9,9 @@ use Rattle.block.specs.Bytes.{put}
 use Rattle.block.specs.Sums.{sealed}
 use Rattle.plan.specs.Periods.{blockAt}
 use Rattle.plan.specs.declared.Dose.{Dose}
-use Rattle.layout.specs.Layout.{filled, headBytes, periodStart, continuationStart, doseBytes}
-use Rattle.layout.specs.declared.Head.{Head}
+use Rattle.plan.specs.Fields.{doseBytes, recordStart}
+use Rattle.layout.specs.Layout.{filled, headBytes, periodStart, continuationStart}
+use Rattle.plan.specs.declared.Head.{Head}
 use Rattle.plan.specs.declared.Header.{Header}
 use Rattle.writer.specs.declared.Place.{Place}
 
@@ -43,7 +44,7 @@ periodPlace out at = cond (hasRoom out (at .blocks)) (record { blocks = at .bloc
 
 -- a dose goes into block b behind n others, and is counted
 unfoldable pub dosePut : List ℕ → ℕ → ℕ → Dose → List ℕ
-dosePut out b n d = put (put out (b * 512 + 24 + n * 24) (doseBytes d)) (b * 512 + 1) ((n + 1) ∷ [])
+dosePut out b n d = put (put out (b * 512 + recordStart n) (doseBytes d)) (b * 512 + 1) ((n + 1) ∷ [])
 
 -- a dose goes into the last block, or, where that holds 20, into a continuation behind it; where that has no room, all stays.
 -- So does all where no period is begun, or the buffer is shorter than the blocks. (More than 20 doses are as 20.)

@@ -1,15 +1,13 @@
-// What a block starts with, put into a whole block that is cleared first; and a dose, put over whatever stood there.
+// What a block starts with, put into a whole block that is cleared first.
 use block::clear;
 use block::put_bytes;
 use block::put_half;
-use block::put_long;
 use block::put_word;
-use layout::Head;
-use plan::Dose;
+use plan::Head;
 use plan::Header;
 ghost use mathlib.Core.Path.{_≡_};
 ghost use lib.ListN.{length};
-ghost use Rattle.layout.specs.Layout.{filled, headBytes, periodStart, continuationStart, doseBytes};
+ghost use Rattle.layout.specs.Layout.{filled, headBytes, periodStart, continuationStart};
 
 // A head that counts no further block yet.
 pub(crate) fn fill_head(b: &mut [u8], head: Head)
@@ -49,19 +47,4 @@ pub(crate) fn fill_continuation(b: &mut [u8])
     let kind = [3, 0];
     clear(&mut *b);
     put_bytes(&mut *b, 0, &kind);
-}
-
-// A dose record.
-pub(crate) fn fill_dose(record: &mut [u8], dose: Dose)
-    requires { ⌜ length (now «record») ≡ 24 ⌝ }
-    ensures { λ _. ⌜ now («record» .exit) ≡ doseBytes dose ⌝ }
-{
-    let when = [dose.kind, dose.mark];
-    let none = [0, 0];
-    put_half(&mut *record, 0, dose.day);
-    put_bytes(&mut *record, 2, &when);
-    put_half(&mut *record, 4, dose.minute);
-    put_bytes(&mut *record, 6, &none);
-    put_long(&mut *record, 8, dose.low);
-    put_long(&mut *record, 16, dose.high);
 }

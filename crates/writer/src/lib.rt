@@ -6,12 +6,14 @@ use block::SIZE;
 use block::put_bytes;
 use block::seal;
 use fill::fill_continuation;
-use fill::fill_dose;
 use fill::fill_head;
 use fill::fill_period;
-use layout::Head;
 use plan::Dose;
+use plan::Head;
 use plan::Header;
+use plan::RECORD;
+use plan::record_start;
+use plan::write_dose;
 ghost use mathlib.Core.Path.{_≡_};
 ghost use Prim.Native.Nat.{_+_, _*_, _≤_, _<_};
 ghost use lib.ListN.{length};
@@ -81,10 +83,10 @@ fn put_dose(out: &mut [u8], b: u8, n: u8, dose: Dose)
     ensures { λ _. ⌜ now (out .exit) ≡ dosePut (now (out .entry)) b n dose ⌝ }
 {
     let block = (b as usize) * SIZE;
-    let from = block + 24 + (n as usize) * 24;
-    let end = from + 24;
+    let from = block + record_start(n);
+    let end = from + RECORD;
     let count = [n + 1];
-    fill_dose(&mut out[from..end], dose);
+    write_dose(&mut out[from..end], dose);
     put_bytes(&mut *out, block + 1, &count);
 }
 

@@ -4,6 +4,7 @@ use mathlib.Core.Logic.{⊎-elim}
 use mathlib.Core.Path.{_≡_}
 use native.Mathlib.Omega.{arith}
 use borrow.Author.Needs.{needs}
+use Rattle.plan.specs.Fields.{headerOf}
 use Rattle.plan.specs.Periods.{blockAt, dosesOf, doseIn}
 use Rattle.doses.specs.Doses.{positionOf, applies, dosesOfPeriod, addedAll}
 use Rattle.below.specs.Lists.{pickBelow}
@@ -65,7 +66,7 @@ unfolding dosesOfPeriod
 returns c = let l = c .before .loop in
     let a = c .before .before .before .before .before .before .args in
     let e : l .j ≡ dosesOf (a .plan .now) (a .b) = omega arith in
-    let q : c .before .before .before .position-of .result ≡ positionOf (blockAt (a .plan .now) (a .b)) (a .day) = cc in
+    let q : c .before .before .before .position-of .result ≡ positionOf (headerOf (blockAt (a .plan .now) (a .b))) (a .day) = cc in
     rw (← q, ← e) (l .inv .2)
 
 pub with-period-spec : {M : Type 1} → statement M

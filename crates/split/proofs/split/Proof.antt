@@ -8,7 +8,7 @@ use Rattle.block.proofs.Numbers.{AreBytes}
 use Rattle.split.proofs.Kept.{accepted-kept, kept-right, kept-few}
 use Rattle.split.proofs.Room.{few-blocks}
 use mathlib.Core.Path.{ap, sym, _∙_}
-use Rattle.verdict.specs.Judging.{classesBy}
+use Rattle.verdict.specs.Classes.{classesBy}
 use Rattle.verdict.specs.Verdict.{refusalOf}
 use Rattle.verdict.proofs.Passing.{accepted-classed}
 use Rattle.split.specs.declared.Parted.the-variants.{Parts, Refused}

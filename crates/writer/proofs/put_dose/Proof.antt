@@ -1,38 +1,35 @@
+use Rattle.writer.proofs.Steps.{dose-put-is}
 use mathlib.Core.Path.{_∙_}
 use borrow.Author.Needs.{needs}
-use Rattle.writer.proofs.Steps.{dose-put-is}
 use Rattle.writer.proofs.put_dose.Statement.{statement}
 use Rattle.writer.proofs.put_dose.Tie as tie
 
 mul-block : tie.Need-mul-block
 mul-block c = search needs
 
+record-start-requires : tie.Need-record-start-requires
+record-start-requires c κs = search needs
+
 add-from : tie.Need-add-from
 add-from c = search needs
-
-mul-from : tie.Need-mul-from
-mul-from c = search needs
-
-add-from-2 : tie.Need-add-from-2
-add-from-2 c = search needs
 
 add-end : tie.Need-add-end
 add-end c = search needs
 
-add-t12 : tie.Need-add-t12
-add-t12 c = search needs
+add-t10 : tie.Need-add-t10
+add-t10 c = search needs
 
-sub-fill-dose : tie.Need-sub-fill-dose
-sub-fill-dose c = search needs
+sub-write-dose : tie.Need-sub-write-dose
+sub-write-dose c = search needs
 
-part-fill-dose-start : tie.Need-part-fill-dose-start
-part-fill-dose-start c = search needs
+part-write-dose-start : tie.Need-part-write-dose-start
+part-write-dose-start c = search needs
 
-part-fill-dose-end : tie.Need-part-fill-dose-end
-part-fill-dose-end c = search needs
+part-write-dose-end : tie.Need-part-write-dose-end
+part-write-dose-end c = search needs
 
-fill-dose-requires : tie.Need-fill-dose-requires
-fill-dose-requires c κs = search needs
+write-dose-requires : tie.Need-write-dose-requires
+write-dose-requires c κs = search needs
 
 add-put-bytes : tie.Need-add-put-bytes
 add-put-bytes c = search needs
@@ -47,25 +44,23 @@ same-length : tie.Need-same-length
 same-length c = search needs
 
 returns : tie.Need-returns
-returns c =
-    let a = c .before .before .before .before .before .before .before .before .before .before .args in
+returns c = let s = c .before .before .before .before .before .before .before .before .before .before .before in
     c .before .before .put-bytes .ensures ∙
-    dose-put-is (a .out .now) (a .b) (a .n) (a .dose) (c .before .before .before .before .before .before .before .before .before .before .pre .0) (c .before .before .before .before .before .before .before .before .before .before .pre .1) _ (c .before .before .before .before .before .before .before .fill-dose .ensures)
+    dose-put-is (s .args .out .now) (s .args .b) (s .args .n) (s .args .dose) (s .pre .0) (s .pre .1) (c .before .before .before .before .before .before .before .before .before .record-start .ensures .0) _ (c .before .before .before .before .before .before .before .write-dose .ensures)
 
 pub put-dose-spec : {M : Type 1} → statement M
 put-dose-spec =
     tie.close
     (tie.spec
     mul-block
+    record-start-requires
     add-from
-    mul-from
-    add-from-2
     add-end
-    add-t12
-    sub-fill-dose
-    part-fill-dose-start
-    part-fill-dose-end
-    fill-dose-requires
+    add-t10
+    sub-write-dose
+    part-write-dose-start
+    part-write-dose-end
+    write-dose-requires
     add-put-bytes
     slice-aggregate-put-bytes
     put-bytes-requires

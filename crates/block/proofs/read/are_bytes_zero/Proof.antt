@@ -3,7 +3,7 @@ use mathlib.Core.Bool.{true}
 use mathlib.Core.Path.{_≡_, sym}
 use native.Mathlib.Omega.{arith}
 use lib.ListN.{length}
-use Rattle.block.specs.Zeros.{zeroIn}
+use Rattle.block.specs.code.Zeros.{zeroIn}
 use Rattle.block.proofs.Zeros.{zero-none, zero-next, part-not, byte-zero, byte-not}
 use borrow.Author.Needs.{needs}
 use Rattle.block.proofs.read.are_bytes_zero.Statement.{statement}

@@ -3,7 +3,7 @@ use mathlib.Core.Bool.{true}
 use mathlib.Core.Path.{_≡_, sym, _∙_}
 use native.Mathlib.Omega.{arith}
 use borrow.Author.Tests.{not-true, not-false}
-use Rattle.block.specs.Zeros.{zeroIn}
+use Rattle.block.specs.code.Zeros.{zeroIn}
 use Rattle.block.proofs.Zeros.{zero-none, zero-next, part-not}
 use borrow.Author.Needs.{needs}
 use Rattle.block.proofs.read.are_chunks_zero.Statement.{statement}

@@ -2,7 +2,7 @@ use Prim.Native.Nat.{_-_, _*_, _≤_}
 use mathlib.Core.Bool.{true}
 use mathlib.Core.Path.{_≡_, sym}
 use native.Mathlib.Omega.{arith}
-use Rattle.block.specs.Zeros.{zeroIn}
+use Rattle.block.specs.code.Zeros.{zeroIn}
 use Rattle.block.proofs.Zeros.{zero-none, zero-next, part-not, long-zero, long-not}
 use borrow.Author.Needs.{needs}
 use Rattle.block.proofs.read.are_longs_zero.Statement.{statement}

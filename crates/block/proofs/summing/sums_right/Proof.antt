@@ -1,4 +1,3 @@
-use Rattle.block.proofs.Zeros.{zero-none}
 use borrow.Author.Needs.{needs}
 use borrow.Author.Tests.{eq-eqb, ne-eqb}
 use Rattle.block.specs.Sums.{sumsRight}
@@ -10,7 +9,7 @@ unfolding sumsRight
 returns c = rw (ne-eqb _ _ (c .if1 .taken))
 
 sums-of-requires : tie.Need-sums-of-requires
-sums-of-requires c κs = (search needs, search needs, zero-none _ _)
+sums-of-requires c κs = search needs
 
 word-in-requires : tie.Need-word-in-requires
 word-in-requires c κs = search needs

@@ -1,5 +1,5 @@
 use borrow.Author.Tests.{eq-eqb, ne-eqb}
-use Rattle.form.specs.Front.{frontOut}
+use Rattle.form.specs.code.Front.{frontOut}
 use borrow.Author.Needs.{needs}
 use Rattle.form.proofs.block_form.front_out.Statement.{statement}
 use Rattle.form.proofs.block_form.front_out.Tie as tie

@@ -1,5 +1,5 @@
 use borrow.Author.Tests.{eq-eqb, ne-eqb}
-use Rattle.form.specs.Front.{recordsOf}
+use Rattle.form.specs.code.Front.{recordsOf}
 use borrow.Author.Needs.{needs}
 use Rattle.form.proofs.block_form.records_of.Statement.{statement}
 use Rattle.form.proofs.block_form.records_of.Tie as tie

@@ -2,16 +2,13 @@ use Prim.Native.Nat.{_≤_, _<_}
 use native.Mathlib.Omega.{arith}
 use borrow.Author.Tests.{lt-ltb, le-ltb}
 use Rattle.plan.specs.Fields.{countOf}
-use Rattle.form.specs.Front.{recordsOut}
+use Rattle.form.specs.code.Front.{recordsOut}
 use borrow.Author.Needs.{needs}
 use Rattle.form.proofs.block_form.records_out.Statement.{statement}
 use Rattle.form.proofs.block_form.records_out.Tie as tie
 
 count-of-requires : tie.Need-count-of-requires
 count-of-requires c κs = search needs
-
-cast-n : tie.Need-cast-n
-cast-n c = search needs
 
 returns : tie.Need-returns
 unfolding recordsOut
@@ -26,4 +23,4 @@ returns-2 c = let h : countOf (c .before .before .before .before .args .r .now) 
 
 pub records-out-spec : {M : Type 1} → statement M
 records-out-spec =
-    tie.close (tie.spec count-of-requires cast-n returns any-dose-out-requires returns-2)
+    tie.close (tie.spec count-of-requires returns any-dose-out-requires returns-2)

@@ -3,7 +3,7 @@ use mathlib.Core.Path.{_≡_, sym, _∙_}
 use native.Mathlib.Omega.{arith}
 use Rattle.below.proofs.Search.{NoneBelow, none-zero, none-more, first-is, first-end}
 use Rattle.plan.specs.Periods.{blocksOf}
-use Rattle.form.specs.Front.{brokenAt}
+use Rattle.form.specs.code.Front.{brokenAt}
 use borrow.Author.Needs.{needs}
 use Rattle.form.proofs.order.first_broken.Statement.{statement}
 use Rattle.form.proofs.order.first_broken.Tie as tie

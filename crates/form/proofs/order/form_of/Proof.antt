@@ -7,8 +7,8 @@ use Rattle.plan.specs.Periods.{blocksOf}
 use Rattle.refusal.proofs.Order.{Passed, block-none}
 use Rattle.refusal.specs.Order.{lowestBlock}
 use Rattle.form.specs.Form.{formBreaks, formOf}
-use Rattle.form.specs.Front.{brokenAt}
-use Rattle.form.specs.Whole.{Whole}
+use Rattle.form.specs.code.Front.{brokenAt}
+use Rattle.form.specs.code.Whole.{Whole}
 use Rattle.form.specs.declared.Form.the-variants.{Broken}
 use Rattle.form.proofs.Formed.{none-broken, lowest-broken}
 use Rattle.form.proofs.Laws.{whole, none-ahead, broken-is, right-by}

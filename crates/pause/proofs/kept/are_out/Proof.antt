@@ -6,8 +6,7 @@ use borrow.Author.Tests.{lt-ltb, le-ltb}
 use borrow.Author.Needs.{needs}
 use Rattle.below.proofs.Search.{NoneBelow, none-zero, none-more, any-hit, any-end}
 use Rattle.pause.specs.declared.Pause.{Pause}
-use Rattle.pause.specs.Pauses.{noDay, isOut}
-use Rattle.pause.specs.Kept.{areOutIn}
+use Rattle.pause.specs.Pauses.{noDay, isOut, areOutOf}
 use Rattle.pause.proofs.Lists.{at-any}
 use Rattle.pause.proofs.kept.are_out.Statement.{statement}
 use Rattle.pause.proofs.kept.are_out.Tie as tie
@@ -19,7 +18,7 @@ abbrev μ-loop : tie.MeasureT-loop
 μ-loop count at i₀ i = count - i
 
 returns : tie.Need-returns Inv-loop μ-loop
-unfolding areOutIn
+unfolding areOutOf
 returns c = rw (lt-ltb _ _ (c .if1 .taken))
 
 loop-holds : tie.Need-loop-holds Inv-loop μ-loop
@@ -44,7 +43,7 @@ found c =
     c .is-out .ensures ∙ ap (λ (p : Pause). isOut p) (at-any (start .args .ps .at) i (record { first = 0; last = 0 }) noDay within)
 
 returns-2 : tie.Need-returns-2 Inv-loop μ-loop
-unfolding areOutIn
+unfolding areOutOf
 returns-2 c =
     let few = c .before .before .before .before .before .before .if1 .left in
     rw (le-ltb _ _ few) (sym (any-hit _ (c .before .before .before .loop-test .taken) (sym (found (c .before)) ∙ c .if2 .taken)))
@@ -59,7 +58,7 @@ loop-again : tie.Need-loop-again Inv-loop μ-loop
 loop-again c = (search needs, none-more _ (c .before .before .before .before .loop .inv .1) (sym (found (c .before)) ∙ c .if2 .left))
 
 returns-3 : tie.Need-returns-3 Inv-loop μ-loop
-unfolding areOutIn
+unfolding areOutOf
 returns-3 c =
     rw (le-ltb _ _ (c .before .before .before .if1 .left)) (sym (any-end _ (c .loop-test .left) (c .before .loop .inv .1)))
 

@@ -5,7 +5,7 @@ use native.Mathlib.Omega.{arith}
 use borrow.Author.Tests.{not-true, not-false}
 use Rattle.below.proofs.Tests.{true-not-false}
 use Rattle.plan.specs.Periods.{doseIn}
-use Rattle.period.specs.Quick.{Quickly}
+use Rattle.period.specs.code.Quick.{Quickly}
 use Rattle.period.proofs.QuickPass.{begins}
 use borrow.Author.Needs.{needs}
 use Rattle.period.proofs.quick.quick_doses.Statement.{statement}

@@ -2,7 +2,7 @@ use Prim.Native.Nat.{_+_, _*_, _≤_, min}
 use mathlib.Core.Path.{_≡_}
 use native.Mathlib.Omega.{arith}
 use borrow.Author.Tests.{ne-eqb}
-use Rattle.period.specs.Quick.{quickKey, quickRank}
+use Rattle.period.specs.code.Quick.{quickKey, quickRank}
 use Rattle.period.proofs.Choice.{cond-le}
 use borrow.Author.Needs.{needs}
 use Rattle.period.proofs.quick.quick_rank.Statement.{statement}

@@ -2,7 +2,7 @@ use Prim.Native.Nat.{_≤_}
 use mathlib.Core.Bool.{Bool, cond}
 use native.Mathlib.Omega.{arith}
 use lib.Dec.{eqb}
-use Rattle.period.specs.Quick.{quickTurned}
+use Rattle.period.specs.code.Quick.{quickTurned}
 use Rattle.period.proofs.Choice.{cond-le}
 use borrow.Author.Needs.{needs}
 use Rattle.period.proofs.quick.quick_turn.Statement.{statement}

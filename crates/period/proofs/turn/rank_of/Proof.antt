@@ -1,5 +1,5 @@
 use borrow.Author.Needs.{needs}
-use Rattle.period.specs.Turn.{rankOf}
+use Rattle.period.specs.code.Turn.{rankOf}
 use Rattle.period.proofs.turn.rank_of.Statement.{statement}
 use Rattle.period.proofs.turn.rank_of.Tie as tie
 

@@ -1,6 +1,6 @@
 use native.Mathlib.Omega.{arith}
 use borrow.Author.Needs.{needs}
-use Rattle.period.specs.Turn.{turned}
+use Rattle.period.specs.code.Turn.{turned}
 use Rattle.period.proofs.turn.turn_by.Statement.{statement}
 use Rattle.period.proofs.turn.turn_by.Tie as tie
 

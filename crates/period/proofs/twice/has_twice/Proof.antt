@@ -5,8 +5,8 @@ use lib.Dec.{eqb}
 use borrow.Author.Needs.{needs}
 use Rattle.below.proofs.Search.{NoneBelow, none-zero, none-more, any-hit, any-end}
 use Rattle.plan.specs.Periods.{doseIn}
-use Rattle.period.specs.Twice.{twiceAt, hasTwice, slotOf, Seen}
-use Rattle.period.proofs.Seen.{slot-time, seen-none, seen-more, no-sign}
+use Rattle.period.specs.code.Twice.{twiceAt, hasTwice, slotOf, Seen}
+use Rattle.period.proofs.Seen.{seen-none, seen-more, no-sign}
 use Rattle.period.proofs.twice.has_twice.Statement.{statement}
 use Rattle.period.proofs.twice.has_twice.Tie as tie
 
@@ -19,8 +19,8 @@ abbrev μ-loop : tie.MeasureT-loop
 loop-holds : tie.Need-loop-holds Inv-loop μ-loop
 loop-holds c = (search needs, seen-none _, none-zero _)
 
-time-in-requires : tie.Need-time-in-requires Inv-loop μ-loop
-time-in-requires c κs = search needs
+dose-in-requires : tie.Need-dose-in-requires Inv-loop μ-loop
+dose-in-requires c κs = search needs
 
 slot-of-requires : tie.Need-slot-of-requires Inv-loop μ-loop
 slot-of-requires c κs = search needs
@@ -38,8 +38,8 @@ is-twice-by-requires c κs =
     let l = b3 .before .before .loop in
     let D = doseIn (start .args .plan .now) (start .args .b) in
     let slot : c .before .before .slot-of .result ≡ slotOf (D (l .j)) =
-    (rw (b3 .time-in .ensures) at (c .before .before .slot-of .ensures .0)) ∙ slot-time (D (l .j)) in
-    let same : eqb (l .day) (D (l .j) .day) ≡ true → c .next-tag .result ≡ l .tag = rw (b3 .time-in .ensures) at (c .next-tag .ensures) in (
+    (rw (b3 .dose-in .ensures) at (c .before .before .slot-of .ensures .0)) in
+    let same : eqb (l .day) (D (l .j) .day) ≡ true → c .next-tag .result ≡ l .tag = rw (b3 .dose-in .ensures) at (c .next-tag .ensures) in (
       (b3 .before .loop-test .taken, start .pre),
       λ none. no-sign D (l .j) (l .last) (l .inv .1) (start .pre) (b3 .before .loop-test .taken) same (rw slot at none),
     )
@@ -69,10 +69,10 @@ loop-again c =
     let l = b6 .before .before .loop in
     let D = doseIn (start .args .plan .now) (start .args .b) in
     let slot : b3 .before .before .slot-of .result ≡ slotOf (D (l .j)) =
-    (rw (b6 .time-in .ensures) at (b3 .before .before .slot-of .ensures .0)) ∙ slot-time (D (l .j)) in
-    let same : eqb (l .day) (D (l .j) .day) ≡ true → b3 .next-tag .result ≡ l .tag = rw (b6 .time-in .ensures) at (b3 .next-tag .ensures) in (
+    (rw (b6 .dose-in .ensures) at (b3 .before .before .slot-of .ensures .0)) in
+    let same : eqb (l .day) (D (l .j) .day) ≡ true → b3 .next-tag .result ≡ l .tag = rw (b6 .dose-in .ensures) at (b3 .next-tag .ensures) in (
       search needs,
-      rw (c .kept-of .ensures, slot, b6 .time-in .ensures) (seen-more D (l .j) (l .last) (l .inv .1) (start .pre) (b6 .before .loop-test .taken) same),
+      rw (c .kept-of .ensures, slot, b6 .dose-in .ensures) (seen-more D (l .j) (l .last) (l .inv .1) (start .pre) (b6 .before .loop-test .taken) same),
       none-more _ (l .inv .2) (sym (c .before .before .is-twice-by .ensures) ∙ c .before .if1 .left),
     )
 
@@ -87,7 +87,7 @@ has-twice-spec =
     Inv-loop
     μ-loop
     loop-holds
-    time-in-requires
+    dose-in-requires
     slot-of-requires
     next-tag-requires
     array-read-is-twice-by

@@ -14,26 +14,26 @@ Inv-loop plan b j n d i₀ i = (i ≤ j) × NoneBelow (λ k. twice (doseIn plan 
 abbrev μ-loop : tie.MeasureT-loop
 μ-loop plan b j n d i₀ i = j - i
 
-time-in-requires : tie.Need-time-in-requires Inv-loop μ-loop
-time-in-requires c κs = search needs
+dose-in-requires : tie.Need-dose-in-requires Inv-loop μ-loop
+dose-in-requires c κs = search needs
 
 loop-holds : tie.Need-loop-holds Inv-loop μ-loop
 loop-holds c = (search needs, none-zero _)
 
-sub-time-in : tie.Need-sub-time-in Inv-loop μ-loop
-sub-time-in c = search needs
+sub-dose-in : tie.Need-sub-dose-in Inv-loop μ-loop
+sub-dose-in c = search needs
 
-sub-time-in-2 : tie.Need-sub-time-in-2 Inv-loop μ-loop
-sub-time-in-2 c = search needs
+sub-dose-in-2 : tie.Need-sub-dose-in-2 Inv-loop μ-loop
+sub-dose-in-2 c = search needs
 
-time-in-requires-2 : tie.Need-time-in-requires-2 Inv-loop μ-loop
-time-in-requires-2 c κs = search needs
+dose-in-requires-2 : tie.Need-dose-in-requires-2 Inv-loop μ-loop
+dose-in-requires-2 c κs = search needs
 
 returns : tie.Need-returns Inv-loop μ-loop
 returns c =
     let start = c .before .before .before .before .before .before .before .before in
-    let e = c .before .before .before .time-in2 .ensures in
-    let d = c .before .before .before .before .before .before .time-in .ensures in
+    let e = c .before .before .before .dose-in2 .ensures in
+    let d = c .before .before .before .before .before .before .dose-in .ensures in
     back-stop (doseIn (start .args .plan .now) (start .args .b)) (start .pre .1) (start .pre .0) (c .before .before .before .before .loop-test .taken) (c .before .before .before .before .before .loop .inv .1)
     (rw (e, d) at (c .if1 .taken))
 
@@ -43,8 +43,8 @@ is-twice-requires c κs = search needs
 returns-2 : tie.Need-returns-2 Inv-loop μ-loop
 returns-2 c =
     let start = c .before .before .before .before .before .before .before .before .before .before in
-    let e = c .before .before .before .before .before .time-in2 .ensures in
-    let d = c .before .before .before .before .before .before .before .before .time-in .ensures in
+    let e = c .before .before .before .before .before .dose-in2 .ensures in
+    let d = c .before .before .before .before .before .before .before .before .dose-in .ensures in
     back-hit (doseIn (start .args .plan .now) (start .args .b)) (start .pre .1) (start .pre .0) (c .before .before .before .before .before .before .loop-test .taken)
     (rw (e, d) at (sym (c .before .is-twice .ensures) ∙ c .if2 .taken))
 
@@ -56,8 +56,8 @@ loop-less c = search needs
 
 loop-again : tie.Need-loop-again Inv-loop μ-loop
 loop-again c =
-    let e = c .before .before .before .before .before .time-in2 .ensures in
-    let d = c .before .before .before .before .before .before .before .before .time-in .ensures in
+    let e = c .before .before .before .before .before .dose-in2 .ensures in
+    let d = c .before .before .before .before .before .before .before .before .dose-in .ensures in
     (search needs, none-more _ (c .before .before .before .before .before .before .before .loop .inv .1) (rw (e, d) at (sym (c .before .is-twice .ensures) ∙ c .if2 .left)))
 
 returns-3 : tie.Need-returns-3 Inv-loop μ-loop
@@ -71,11 +71,11 @@ is-twice-back-spec =
     (tie.spec
     Inv-loop
     μ-loop
-    time-in-requires
+    dose-in-requires
     loop-holds
-    sub-time-in
-    sub-time-in-2
-    time-in-requires-2
+    sub-dose-in
+    sub-dose-in-2
+    dose-in-requires-2
     returns
     is-twice-requires
     returns-2

@@ -1,6 +1,6 @@
 use mathlib.Core.Path.{_≡_}
 use borrow.Author.Needs.{needs}
-use Rattle.period.specs.Twice.{slotOf}
+use Rattle.period.specs.code.Twice.{slotOf}
 use Rattle.period.proofs.Seen.{slot-small}
 use Rattle.period.proofs.twice.slot_of.Statement.{statement}
 use Rattle.period.proofs.twice.slot_of.Tie as tie

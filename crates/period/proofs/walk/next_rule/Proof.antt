@@ -1,6 +1,6 @@
 use mathlib.Core.Path.{sym, _∙_}
 use borrow.Author.Needs.{needs}
-use Rattle.period.specs.Turn.{nextRule}
+use Rattle.period.specs.code.Turn.{nextRule}
 use Rattle.period.proofs.walk.next_rule.Statement.{statement}
 use Rattle.period.proofs.walk.next_rule.Tie as tie
 

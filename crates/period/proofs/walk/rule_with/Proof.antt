@@ -1,6 +1,6 @@
 use borrow.Author.Tests.{lt-ltb, le-ltb}
 use borrow.Author.Needs.{needs}
-use Rattle.period.specs.Turn.{ruleWith}
+use Rattle.period.specs.code.Turn.{ruleWith}
 use Rattle.period.proofs.walk.rule_with.Statement.{statement}
 use Rattle.period.proofs.walk.rule_with.Tie as tie
 

@@ -3,7 +3,7 @@ use mathlib.Core.Path.{_≡_, sym, _∙_}
 use native.Mathlib.Omega.{arith}
 use borrow.Author.Needs.{needs}
 use Rattle.plan.specs.Periods.{doseIn}
-use Rattle.period.specs.Turn.{Passed}
+use Rattle.period.specs.code.Turn.{Passed}
 use Rattle.plan.proofs.Marks.{at-place}
 use Rattle.period.proofs.Steps.{one-more}
 use Rattle.period.proofs.walk.walk_block.Statement.{statement}

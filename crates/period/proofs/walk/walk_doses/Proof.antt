@@ -2,7 +2,7 @@ use Prim.Native.Nat.{_+_, _*_, _-_, _≤_, min}
 use mathlib.Core.Path.{_≡_}
 use native.Mathlib.Omega.{arith}
 use borrow.Author.Needs.{needs}
-use Rattle.period.specs.Turn.{Passed, walkedTo}
+use Rattle.period.specs.code.Turn.{Passed, walkedTo}
 use Rattle.period.proofs.walk.walk_doses.Statement.{statement}
 use Rattle.period.proofs.walk.walk_doses.Tie as tie
 

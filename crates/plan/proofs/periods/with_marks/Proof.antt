@@ -4,7 +4,7 @@ use mathlib.Core.Path.{_≡_, sym}
 use native.Mathlib.Omega.{arith}
 use Rattle.below.specs.Below.{anyBelow}
 use Rattle.plan.specs.Fields.{recordAt, doseOf, isMarked}
-use Rattle.plan.proofs.Marks.{mark-at, or-none, or-more}
+use Rattle.plan.proofs.Marks.{or-none, or-more}
 use borrow.Author.Needs.{needs}
 use Rattle.plan.proofs.periods.with_marks.Statement.{statement}
 use Rattle.plan.proofs.periods.with_marks.Tie as tie
@@ -18,17 +18,8 @@ abbrev μ-loop : tie.MeasureT-loop
 loop-holds : tie.Need-loop-holds Inv-loop μ-loop
 loop-holds c = (search needs, sym (or-none _ _), sym (or-none _ _))
 
-cast-mark : tie.Need-cast-mark Inv-loop μ-loop
-cast-mark c = search needs
-
-mul-mark : tie.Need-mul-mark Inv-loop μ-loop
-mul-mark c = search needs
-
-add-mark : tie.Need-add-mark Inv-loop μ-loop
-add-mark c = search needs
-
-shared-slice-read-mark : tie.Need-shared-slice-read-mark Inv-loop μ-loop
-shared-slice-read-mark c = search needs
+is-marked-in-requires : tie.Need-is-marked-in-requires Inv-loop μ-loop
+is-marked-in-requires c κs = search needs
 
 add-i : tie.Need-add-i Inv-loop μ-loop
 add-i c = search needs
@@ -38,26 +29,15 @@ loop-less c = search needs
 
 loop-again : tie.Need-loop-again Inv-loop μ-loop
 loop-again c = let l = c .before .before .loop in
-    let m = mark-at (c .before .before .before .args .r .now) (l .i) in
+    let m = sym (c .is-marked-in .ensures) in
     (search needs, rw (or-more, m, ← l .inv .1), rw (or-more, m, ← l .inv .2))
 
 returns : tie.Need-returns Inv-loop μ-loop
 returns c = let l = c .before .loop in
-    let e : c .before .before .args .n ≡ l .i = omega arith in
+    let e : c .before .before .before .args .n ≡ l .i = omega arith in
     rw e (l .inv .1, l .inv .2)
 
 pub with-marks-spec : {M : Type 1} → statement M
 with-marks-spec =
     tie.close
-    (tie.spec
-    Inv-loop
-    μ-loop
-    loop-holds
-    cast-mark
-    mul-mark
-    add-mark
-    shared-slice-read-mark
-    add-i
-    loop-less
-    loop-again
-    returns)
+    (tie.spec Inv-loop μ-loop loop-holds is-marked-in-requires add-i loop-less loop-again returns)

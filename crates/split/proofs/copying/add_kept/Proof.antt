@@ -2,7 +2,7 @@ use Prim.Native.Nat.{_-_, _≤_}
 use mathlib.Core.Path.{_≡_}
 use native.Mathlib.Omega.{arith}
 use lib.ListN.{length}
-use Rattle.split.specs.Adding.{AddsDoses, keptIn}
+use Rattle.split.specs.code.Adding.{AddsDoses, keptIn}
 use Rattle.split.proofs.Adding.{doses-none, doses-both}
 use Rattle.split.proofs.Copied.{kept-none, kept-more, kept-rest}
 use borrow.Author.Needs.{needs}

@@ -1,5 +1,5 @@
 use native.Mathlib.Omega.{arith}
-use Rattle.split.specs.Adding.{keptIn}
+use Rattle.split.specs.code.Adding.{keptIn}
 use Rattle.split.proofs.Records.{kept-added, none-added}
 use borrow.Author.Needs.{needs}
 use Rattle.split.proofs.copying.add_together.Statement.{statement}

@@ -2,7 +2,7 @@ use Prim.Native.Nat.{_+_, _-_, _≤_}
 use mathlib.Core.Path.{_≡_}
 use native.Mathlib.Omega.{arith}
 use lib.ListN.{length}
-use Rattle.split.specs.Adding.{keptIn, recordsPut}
+use Rattle.split.specs.code.Adding.{keptIn, recordsPut}
 use Rattle.split.proofs.Copied.{kept-start, kept-turn}
 use borrow.Author.Needs.{needs}
 use Rattle.split.proofs.copying.put_all_kept.Statement.{statement}

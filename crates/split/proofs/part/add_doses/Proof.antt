@@ -6,7 +6,7 @@ use Rattle.below.specs.Lists.{listBelow, keep}
 use Rattle.plan.specs.Periods.{dosesOf, doseIn}
 use Rattle.layout.specs.Reading.{dosesAt}
 use Rattle.split.specs.Parts.{isOfPart}
-use Rattle.split.specs.Adding.{AddsDoses}
+use Rattle.split.specs.code.Adding.{AddsDoses}
 use Rattle.split.proofs.Adding.{doses-none, doses-both}
 use Rattle.split.proofs.Copied.{block-none, block-more}
 use borrow.Author.Needs.{needs}

@@ -6,7 +6,7 @@ use Rattle.below.specs.Lists.{joinBelow}
 use Rattle.below.proofs.Lists.{join-zero, join-more}
 use Rattle.plan.specs.Periods.{blocksOf}
 use Rattle.split.specs.Parts.{sharedBy, sharedIn}
-use Rattle.split.specs.Adding.{Adds}
+use Rattle.split.specs.code.Adding.{Adds}
 use Rattle.split.proofs.Adding.{adds-none, adds-both}
 use borrow.Author.Needs.{needs}
 use Rattle.split.proofs.part.add_shared.Statement.{statement}

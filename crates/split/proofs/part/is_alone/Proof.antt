@@ -3,7 +3,7 @@ use mathlib.Core.Path.{_≡_, sym, _∙_}
 use native.Mathlib.Omega.{arith}
 use Rattle.below.proofs.Search.{NoneBelow, none-zero, none-more, any-hit, any-end}
 use Rattle.plan.specs.Periods.{blocksOf}
-use Rattle.split.specs.Adding.{isOther, isAlone}
+use Rattle.split.specs.code.Adding.{isOther, isAlone}
 use borrow.Author.Needs.{needs}
 use Rattle.split.proofs.part.is_alone.Statement.{statement}
 use Rattle.split.proofs.part.is_alone.Tie as tie

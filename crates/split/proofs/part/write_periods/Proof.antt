@@ -8,7 +8,7 @@ use Rattle.below.proofs.Lists.{join-zero, join-more}
 use Rattle.plan.specs.Periods.{blocksOf}
 use Rattle.writer.proofs.Holding.{holds-begin, holds-finish}
 use Rattle.split.specs.Parts.{broughtBy, partOf, partBytes}
-use Rattle.split.specs.Adding.{Adds}
+use Rattle.split.specs.code.Adding.{Adds}
 use Rattle.split.specs.Split.{over}
 use Rattle.split.proofs.Adding.{adds-none, adds-both}
 use borrow.Author.Needs.{needs}

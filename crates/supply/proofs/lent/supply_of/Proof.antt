@@ -40,8 +40,7 @@ use denote.Triple.Clauses.{ensured, lasts}
 use denote.Exit.{yes}
 use Rattle.pause.specs.declared.Pause.{Pause}
 use Rattle.pause.specs.declared.Pauses.{Pauses}
-use Rattle.pause.specs.Pauses.{areOut, firstOf}
-use Rattle.pause.specs.Kept.{areOutIn}
+use Rattle.pause.specs.Pauses.{areOutOf, areOut, firstOf}
 use Rattle.pause.proofs.Lists.{out-first}
 use Rattle.pause.proofs.Pauses as P
 use Rattle.pause.proofs.Pauses.Laws as P′
@@ -74,7 +73,7 @@ Collected ys ps = (ps .count ≡ length ys) × (ps .at ≡ firstOf 32 ys)
 
 module _ (p : List ℕ) (start pack choice : ℕ) where
   abbrev answer : Pauses → Supply
-  answer ps = passedOn (verdictOf p) (judgedOf p start pack choice (areOutIn ps) (ps .at))
+  answer ps = passedOn (verdictOf p) (judgedOf p start pack choice (areOutOf (ps .count) (ps .at)) (ps .at))
 
   answers : (ys : List Pause) (ps : Pauses) → Collected ys ps → answer ps ≡ supplyOf p start pack choice ys
   answers ys ps e =

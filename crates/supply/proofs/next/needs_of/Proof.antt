@@ -3,7 +3,7 @@ use native.Mathlib.Omega.{arith}
 use borrow.Author.Tests.{not-true, not-false}
 use borrow.Author.Needs.{needs}
 use Rattle.below.proofs.Tests.{true-not-false}
-use Rattle.supply.specs.Capped.{From, lowestAt, Listed}
+use Rattle.supply.specs.code.Capped.{From, lowestAt, Listed}
 use Rattle.supply.proofs.Placing.{from-first, from-behind, listed-none, listed-more, listed-all}
 use Rattle.supply.proofs.next.needs_of.Statement.{statement}
 use Rattle.supply.proofs.next.needs_of.Tie as tie

@@ -1,7 +1,7 @@
 use mathlib.Core.Path.{_≡_}
 use borrow.Author.Needs.{needs}
 use Rattle.doses.specs.Doses.{positionOf}
-use Rattle.plan.specs.Fields.{intervalOf}
+use Rattle.plan.specs.Fields.{intervalOf, headerOf}
 use Rattle.plan.specs.Periods.{blockAt}
 use Rattle.supply.proofs.today.in_period.Statement.{statement}
 use Rattle.supply.proofs.today.in_period.Tie as tie
@@ -40,7 +40,7 @@ returns c =
     let a = c .before .before .before .before .before .before .before .before .before in
     let p = a .args .plan .now in
     let b = a .args .b in
-    let x : c .before .before .before .before .position-of .result ≡ positionOf (blockAt p b) (a .args .day) = cc in
+    let x : c .before .before .before .before .position-of .result ≡ positionOf (headerOf (blockAt p b)) (a .args .day) = cc in
     let i : c .before .before .before .before .before .before .interval-of .result ≡ intervalOf (blockAt p b) = cc in (
       record {
         block = search needs;

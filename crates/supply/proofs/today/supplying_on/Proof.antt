@@ -4,7 +4,7 @@ use native.Mathlib.Omega.{arith}
 use borrow.Author.Needs.{needs}
 use Rattle.below.proofs.Search.{NoneBelow, none-zero, none-more, first-is, first-end}
 use Rattle.plan.specs.Periods.{blocksOf}
-use Rattle.supply.specs.Capped.{supplies}
+use Rattle.supply.specs.code.Capped.{supplies}
 use Rattle.supply.proofs.today.supplying_on.Statement.{statement}
 use Rattle.supply.proofs.today.supplying_on.Tie as tie
 

@@ -5,7 +5,7 @@ use mathlib.Core.Path.{_≡_}
 use native.Mathlib.Omega.{arith}
 use borrow.Author.Needs.{needs}
 use Rattle.plan.specs.Periods.{blockAt}
-use Rattle.supply.specs.Capped.{cap, Told, Listed, Known}
+use Rattle.supply.specs.code.Capped.{cap, Told, Listed, Known}
 use Rattle.supply.specs.Need.{needOn}
 use Rattle.supply.proofs.Covering.{Walked, walk-begins, walk-goes-on, lasting-short, lasting-long}
 use Rattle.supply.proofs.Placing.{position-small}

@@ -1,6 +1,5 @@
 use borrow.Author.Needs.{needs}
-use Rattle.verdict.specs.Coverage.{inGroup}
-use Rattle.verdict.specs.Groups.{isMember}
+use Rattle.verdict.specs.Coverage.{inGroup, isMember}
 use Rattle.verdict.proofs.Members.{by-entry}
 use Rattle.verdict.proofs.coverage.is_member.Statement.{statement}
 use Rattle.verdict.proofs.coverage.is_member.Tie as tie

@@ -3,7 +3,7 @@ use mathlib.Core.Path.{sym, _∙_}
 use denote.Ref.{now}
 use borrow.Author.Needs.{needs}
 use Rattle.below.proofs.Search.{NoneBelow, none-zero, none-more, any-hit, any-end}
-use Rattle.verdict.specs.Groups.{holeAfter}
+use Rattle.verdict.specs.code.Groups.{holeAfter}
 use Rattle.verdict.proofs.DayAfter.{hole-after}
 use Rattle.verdict.proofs.holes.has_hole.Statement.{statement}
 use Rattle.verdict.proofs.holes.has_hole.Tie as tie

@@ -1,7 +1,7 @@
 use mathlib.Core.Path.{sym, _∙_}
 use borrow.Author.Needs.{needs}
 use borrow.Author.Tests.{not-true, not-false}
-use Rattle.verdict.specs.Groups.{holeAfter}
+use Rattle.verdict.specs.code.Groups.{holeAfter}
 use Rattle.verdict.proofs.holes.hole_after.Statement.{statement}
 use Rattle.verdict.proofs.holes.hole_after.Tie as tie
 

@@ -3,8 +3,8 @@ use mathlib.Core.Path.{_≡_, sym, _∙_}
 use borrow.Author.Needs.{needs}
 use borrow.Author.Tests.{not-true, not-false}
 use Rattle.verdict.specs.Coverage.{inGroup}
-use Rattle.verdict.specs.Groups.{coverOf}
-use Rattle.verdict.specs.Walks.{reachOn}
+use Rattle.verdict.specs.code.Groups.{coverOf}
+use Rattle.verdict.specs.code.Walks.{reachOn}
 use Rattle.verdict.proofs.holes.reach_on.Statement.{statement}
 use Rattle.verdict.proofs.holes.reach_on.Tie as tie
 

@@ -2,7 +2,7 @@ use Prim.Native.Nat.{_≤_, _-_}
 use mathlib.Core.Path.{_≡_}
 use native.Mathlib.Omega.{arith}
 use Rattle.plan.specs.Periods.{blocksOf}
-use Rattle.verdict.specs.Judging.{Judged}
+use Rattle.verdict.specs.code.Judging.{Judged}
 use Rattle.verdict.proofs.Passing.{judged-zero}
 use borrow.Author.Needs.{needs}
 use Rattle.verdict.proofs.order.judge_periods.Statement.{statement}

@@ -1,5 +1,5 @@
 use mathlib.Core.Path.{sym, _∙_}
-use Rattle.verdict.specs.Judging.{classesBy}
+use Rattle.verdict.specs.Classes.{classesBy}
 use borrow.Author.Needs.{needs}
 use Rattle.verdict.proofs.order.verdict_with_classes.Statement.{statement}
 use Rattle.verdict.proofs.order.verdict_with_classes.Tie as tie

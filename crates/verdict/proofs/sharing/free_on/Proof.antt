@@ -1,7 +1,7 @@
 use mathlib.Core.Path.{sym, _∙_}
 use borrow.Author.Needs.{needs}
 use borrow.Author.Tests.{not-true, not-false}
-use Rattle.verdict.specs.Walks.{freeOn}
+use Rattle.verdict.specs.code.Walks.{freeOn}
 use Rattle.verdict.proofs.sharing.free_on.Statement.{statement}
 use Rattle.verdict.proofs.sharing.free_on.Tie as tie
 

@@ -1,5 +1,5 @@
 use borrow.Author.Tests.{eq-eqb, ne-eqb}
-use Rattle.verdict.specs.Walks.{classWith}
+use Rattle.verdict.specs.code.Walks.{classWith}
 use Rattle.verdict.proofs.usual.class_with.Statement.{statement}
 use Rattle.verdict.proofs.usual.class_with.Tie as tie
 

@@ -1,0 +1,3 @@
+-- The code's own definitions: what private contracts and proofs are stated by. No rule, promise or public contract rests on these.
+pub mod Zeros
+pub mod Turns

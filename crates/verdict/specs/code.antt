@@ -1,0 +1,5 @@
+-- The code's own definitions: what private contracts and proofs are stated by. No rule, promise or public contract rests on these.
+pub mod Ready
+pub mod Groups
+pub mod Walks
+pub mod Judging
