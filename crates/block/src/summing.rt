@@ -7,7 +7,7 @@ ghost use mathlib.Core.Path.{_≡_};
 ghost use Prim.Native.Nat.{_+_, _*_, _%_, _^_, _≤_};
 ghost use lib.ListN.{length};
 ghost use Rattle.block.specs.Sums.{grown, summed, sumsOf, sumsRight, sealed};
-ghost use Rattle.block.specs.code.Turns.{noSums, turned};
+ghost use Rattle.block.specs.code.Turns.{noSums, turned, TurnsTo};
 
 // The sums with a word more.
 fn grow(s: Sums, w: u32) -> Sums
@@ -18,15 +18,21 @@ fn grow(s: Sums, w: u32) -> Sums
     Sums { first, second }
 }
 
-// The words that are summed in a turn, and the turns: 126 words in all.
-const WORDS: usize = 9;
+// Six words are summed in a turn, and 21 turns have all 126.
+const WORDS: usize = 6;
 
-const TURNS: usize = 14;
+const TURNS: usize = 21;
 
-// The sums of a turn's words by themselves, from byte `at` on. They wait for no other turn.
+// The sums of each turn's words by themselves.
+struct Turns {
+    first: [u32; 21],
+    second: [u32; 21],
+}
+
+// Of the turn that begins at byte `at`.
 fn turn_sums(b: &[u8], at: usize) -> Sums
-    requires { ⌜ at + 36 ≤ length (now b) ⌝ }
-    ensures { λ r. ⌜ r ≡ summed noSums (now (b .entry)) at 9 ⌝ }
+    requires { ⌜ at + 24 ≤ length (now b) ⌝ }
+    ensures { λ r. ⌜ r ≡ summed noSums (now (b .entry)) at 6 ⌝ }
 {
     let mut s = Sums {
         first: 0,
@@ -38,37 +44,58 @@ fn turn_sums(b: &[u8], at: usize) -> Sums
     s
 }
 
-// Nine times x, by adding.
-fn nine_times(x: u32) -> u32
-    ensures { λ r. ⌜ r ≡ 9 * x % 2 ^ 32 ⌝ }
+// Of all turns. No turn waits for another; where they were made on the way, the compiler would add each word to the sums so far.
+fn turns_of(b: &[u8]) -> Turns
+    requires { ⌜ 504 ≤ length (now b) ⌝ }
+    ensures { λ r. ⌜ TurnsTo (now (b .entry)) 21 (r .first) (r .second) ⌝ }
+{
+    let mut first = [0u32; 21];
+    let mut second = [0u32; 21];
+    for i in 0..TURNS {
+        let t = turn_sums(b, i * 24);
+        first[i] = t.first;
+        second[i] = t.second;
+    }
+    Turns { first, second }
+}
+
+// x as many times as a turn has words, by adding.
+fn times_words(x: u32) -> u32
+    ensures { λ r. ⌜ r ≡ 6 * x % 2 ^ 32 ⌝ }
 {
     let two = std::num::wrapping_add_u32(x, x);
     let four = std::num::wrapping_add_u32(two, two);
-    let eight = std::num::wrapping_add_u32(four, four);
-    std::num::wrapping_add_u32(eight, x)
+    std::num::wrapping_add_u32(four, two)
 }
 
 // The sums with a turn more, whose words have the sums t by themselves: each of them adds the first sum to the second once more.
 fn turn(s: Sums, t: Sums) -> Sums
-    ensures { λ r. ⌜ r ≡ turned 9 s t ⌝ }
+    ensures { λ r. ⌜ r ≡ turned 6 s t ⌝ }
 {
     let first = std::num::wrapping_add_u32(s.first, t.first);
-    let own = std::num::wrapping_add_u32(nine_times(s.first), t.second);
+    let own = std::num::wrapping_add_u32(times_words(s.first), t.second);
     let second = std::num::wrapping_add_u32(s.second, own);
     Sums { first, second }
 }
 
-// The two running sums of words 0 to 125.
+// The two running sums of words 0 to 125: from turn to turn.
 fn sums_of(b: &[u8]) -> Sums
     requires { ⌜ 504 ≤ length (now b) ⌝ }
     ensures { λ r. ⌜ r ≡ sumsOf (now (b .entry)) ⌝ }
 {
+    let turns = turns_of(b);
+    let first = turns.first;
+    let second = turns.second;
     let mut s = Sums {
         first: 0,
         second: 0,
     };
     for i in 0..TURNS {
-        s = turn(s, turn_sums(b, i * 36));
+        let t = Sums {
+            first: first[i],
+            second: second[i],
+        };
+        s = turn(s, t);
     }
     s
 }

@@ -4,24 +4,23 @@ use block::long_at;
 use block::sums_right;
 use block::word_at;
 use day::is_no_span;
+use plan::Dose;
 use plan::count_of;
-use plan::dose_of;
 use plan::end_of;
 use plan::first_of;
 use plan::kind_of;
+use plan::open_record;
 use plan::record_of;
 use plan::record_start;
-use plan::spare_of;
 ghost use mathlib.Core.Path.{_≡_};
-ghost use Prim.Native.Nat.{_≤_, _<_};
-ghost use mathlib.Core.Bool.{cond, not, _||_};
-ghost use lib.Dec.{eqb};
+ghost use Prim.Native.Nat.{_≤_, _<_, max};
+ghost use mathlib.Core.Bool.{not, _||_};
 ghost use lib.ListN.{length};
 ghost use Rattle.below.specs.Below.{anyBelow};
 ghost use Rattle.block.specs.Sums.{sumsRight};
 ghost use Rattle.plan.specs.Fields.{recordAt};
 ghost use Rattle.form.specs.Form.{daysOut, notZero, recordOut, blockOut};
-ghost use Rattle.form.specs.code.Front.{recordsOut, headFront, periodFront, continuationFront, frontOut, recordsOf};
+ghost use Rattle.form.specs.code.Front.{timeOut, recordsOut, headFront, periodFront, continuationFront, frontOut, recordsOf};
 
 // Is one of the bytes from a up to e not zero?
 fn not_zero(r: &[u8], a: usize, e: usize) -> bool
@@ -37,24 +36,31 @@ fn days_out(r: &[u8]) -> bool
     is_no_span(first_of(r), end_of(r))
 }
 
-// The latest minute of a time kind.
-fn latest_minute(kind: u8) -> u16
-    ensures { λ r. ⌜ r ≡ cond (eqb kind 5) 1439 0 ⌝ }
+// A dose's time kind, need mark and minute, and the bytes behind the minute.
+fn time_out(d: Dose, spare: u16) -> bool
+    ensures { λ t. ⌜ t ≡ timeOut d spare ⌝ }
 {
-    if kind == 5 { 1439 } else { 0 }
+    if d.kind < 5 {
+        return (1 < d.mark) | (0 < d.minute) | !(spare == 0);
+    }
+    (5 < d.kind) | (1 < d.mark) | (1439 < d.minute) | !(spare == 0)
+}
+
+fn larger(x: u64, y: u64) -> u64
+    ensures { λ r. ⌜ r ≡ max x y ⌝ }
+{
+    if x < y { y } else { x }
 }
 
 fn record_out(record: &[u8]) -> bool
     requires { ⌜ length (now «record») ≡ 24 ⌝ }
     ensures { λ t. ⌜ t ≡ recordOut (now («record» .entry)) ⌝ }
 {
-    let d = dose_of(record);
-    (5 < d.kind)
-        | (1 < d.mark)
-        | (latest_minute(d.kind) < d.minute)
-        | (9999999999 < d.low)
-        | (9999999999 < d.high)
-        | !(spare_of(record) == 0)
+    let r = open_record(record);
+    if 9999999999 < larger(r.dose.low, r.dose.high) {
+        return true;
+    }
+    time_out(r.dose, r.spare)
 }
 
 // Dose record i of a block, handed on as a part of it.
@@ -69,8 +75,9 @@ fn any_dose_out(r: &[u8], n: u8) -> bool
     requires { ⌜ (length (now r) ≡ 512) × (n ≤ 20) ⌝ }
     ensures { λ t. ⌜ t ≡ anyBelow n (λ i. recordOut (recordAt (now (r .entry)) i)) ⌝ }
 {
+    let block = &r[..512];
     for i in 0..n {
-        if dose_out(r, i) {
+        if dose_out(block, i) {
             return true;
         }
     }

@@ -1,5 +1,5 @@
 -- The laws that other crates' proofs cite.
 pub mod Parts
-pub mod Opened
+pub mod FirstEight
 pub mod Marks
 pub mod DoseRecord

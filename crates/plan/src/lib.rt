@@ -29,9 +29,9 @@ pub use records::dose_at;
 pub use records::dose_of;
 pub use records::is_marked;
 pub use records::is_record_marked;
+pub use records::open_record;
 pub use records::record_of;
 pub use records::record_start;
-pub use records::spare_of;
 pub use records::upper_of;
 pub use records::write_dose;
 
@@ -43,6 +43,12 @@ pub struct Dose {
     pub minute: u16,
     pub low: u64,
     pub high: u64,
+}
+
+// A dose record as it is read: its dose, and the bytes that no field has.
+pub struct Opened {
+    pub dose: Dose,
+    pub spare: u16,
 }
 
 // A head without its count and sums.

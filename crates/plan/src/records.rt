@@ -1,5 +1,6 @@
 // The dose records of a block: where they stand, and which of their bytes each field has. No other file knows either.
 use crate::Dose;
+use crate::Opened;
 use block::byte_at;
 use block::half_at;
 use block::long_at;
@@ -40,27 +41,30 @@ pub fn record_of(r: &[u8], i: u8) -> &[u8]
     &r[..0]
 }
 
-// The dose that a record holds. Its first eight bytes are read as one number.
-pub fn dose_of(record: &[u8]) -> Dose
-    ensures { λ d. ⌜ d ≡ doseOf (now («record» .entry)) ⌝ }
+// A record as it is read. Its first eight bytes make one number.
+pub fn open_record(record: &[u8]) -> Opened
+    ensures { λ r. ⌜ (r .dose ≡ doseOf (now («record» .entry))) × (r .spare ≡ spareOf (now («record» .entry))) ⌝ }
 {
     let x = longs_at(record, 0);
     let w = x.first;
-    Dose {
-        day: (w % 65536) as u16,
-        kind: (w / 65536 % 256) as u8,
-        mark: (w / 16777216 % 256) as u8,
-        minute: (w / 4294967296 % 65536) as u16,
-        low: x.second,
-        high: x.third,
+    Opened {
+        dose: Dose {
+            day: (w % 65536) as u16,
+            kind: (w / 65536 % 256) as u8,
+            mark: (w / 16777216 % 256) as u8,
+            minute: (w / 4294967296 % 65536) as u16,
+            low: x.second,
+            high: x.third,
+        },
+        spare: (w / 281474976710656) as u16,
     }
 }
 
-// The bytes of a record that no field has.
-pub fn spare_of(record: &[u8]) -> u16
-    ensures { λ n. ⌜ n ≡ spareOf (now («record» .entry)) ⌝ }
+// The dose that a record holds.
+pub fn dose_of(record: &[u8]) -> Dose
+    ensures { λ d. ⌜ d ≡ doseOf (now («record» .entry)) ⌝ }
 {
-    half_at(record, 6)
+    open_record(record).dose
 }
 
 // Is the dose of a record as needed? No other field is read.
@@ -103,12 +107,16 @@ pub fn write_dose(record: &mut [u8], dose: Dose)
     put_long(&mut *record, 16, dose.high);
 }
 
-// Writes the dose of another record over a record: by numbers as wide as they can be, since the sums read them as words.
+// Writes the dose of another record over a record: where that is whole, by numbers as wide as they can be, since the sums read them
+// as words.
 pub fn copy_dose(record: &mut [u8], source: &[u8])
     ensures { λ _. ⌜ now («record» .exit) ≡ put (now («record» .entry)) 0 (doseBytes (doseOf (now (source .entry)))) ⌝ }
 {
     if record.len() < RECORD {
         return;
+    }
+    if source.len() < RECORD {
+        return write_dose(record, dose_of(source));
     }
     let day_kind_mark = word_at(source, 0);
     let minute = half_at(source, 4);

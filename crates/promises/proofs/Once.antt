@@ -12,6 +12,7 @@ once =
       day = λ n x y a b i. record { number = (a ∙ sym b) i };
       date = λ y m d a b u v i. record { year = (u .0 ∙ sym (v .0)) i; month = (u .1 ∙ sym (v .1)) i; day = (u .2 ∙ sym (v .2)) i };
       longs = λ a b c x y u v i. record { first = (u .0 ∙ sym (v .0)) i; second = (u .1 ∙ sym (v .1)) i; third = (u .2 ∙ sym (v .2)) i };
+      opened = λ d n x y u v i. record { dose = (u .0 ∙ sym (v .0)) i; spare = (u .1 ∙ sym (v .1)) i };
       judged = λ rule class x y u v i. record { rule = (u .0 ∙ sym (v .0)) i; class = (u .1 ∙ sym (v .1)) i };
       classes = λ a cs x y u v i. record { answer = (u .0 ∙ sym (v .0)) i; classes = (u .1 ∙ sym (v .1)) i };
       pauses = λ n at x y u v i. record { count = (u .0 ∙ sym (v .0)) i; at = (u .1 ∙ sym (v .1)) i };

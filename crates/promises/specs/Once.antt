@@ -11,6 +11,8 @@ use Rattle.day.specs.declared.Shown.{Shown}
 use Rattle.pause.specs.declared.Pause.{Pause}
 use Rattle.pause.specs.declared.Pauses.{Pauses}
 use Rattle.period.specs.declared.Judged.{Judged}
+use Rattle.plan.specs.declared.Dose.{Dose}
+use Rattle.plan.specs.declared.Opened.{Opened}
 use Rattle.refusal.specs.declared.Refusal.{Refusal}
 use Rattle.register.specs.Paper.{released, stated}
 use Rattle.register.specs.Steps.{Call, nothingBut, Called}
@@ -27,6 +29,8 @@ pub record Once : Type 0 where
   pub date : (y m d : ℕ) (a b : Date) → (a .year ≡ y) × (a .month ≡ m) × (a .day ≡ d) → (b .year ≡ y) × (b .month ≡ m) × (b .day ≡ d) → a ≡ b
   -- block: `longs_at` says its three numbers
   pub longs : (a b c : ℕ) (x y : Longs) → (x .first ≡ a) × (x .second ≡ b) × (x .third ≡ c) → (y .first ≡ a) × (y .second ≡ b) × (y .third ≡ c) → x ≡ y
+  -- plan: `open_record` says the dose and the spare bytes
+  pub opened : (d : Dose) (n : ℕ) (x y : Opened) → (x .dose ≡ d) × (x .spare ≡ n) → (y .dose ≡ d) × (y .spare ≡ n) → x ≡ y
   -- period: `judge_period` says rule and class
   pub judged : (rule class : ℕ) (x y : Judged) → (x .rule ≡ rule) × (x .class ≡ class) → (y .rule ≡ rule) × (y .class ≡ class) → x ≡ y
   -- verdict: `verdict_with_classes` says answer and classes

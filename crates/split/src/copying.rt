@@ -49,9 +49,10 @@ fn put_all_kept(
     requires { ⌜ (block + 512 ≤ length (now out)) × (length (now r) ≡ 512) × (from ≤ n) × (n ≤ 20) × (held + (n - from) ≤ 20) ⌝ }
     ensures { λ m. ⌜ (now (out .exit) ≡ recordsPut (now (out .entry)) block held (keptIn marked (now (r .entry)) from n)) × (m ≡ held + length (keptIn marked (now (r .entry)) from n)) × (m ≤ held + (n - from)) ⌝ }
 {
+    let source = &r[..512];
     let mut m = held;
     for i in from..n {
-        let next = put_kept(&mut *out, block, m, r, i, marked);
+        let next = put_kept(&mut *out, block, m, source, i, marked);
         m = next;
     }
     m

@@ -8,8 +8,6 @@ use lib.ListN.{length, drop, replicate, length-append, length-replicate, replica
 use lib.Seq.{take-at, drop-at, drop-append-add}
 use Rattle.block.specs.Bytes.{bytesOf, put}
 use Rattle.block.proofs.Put.{put-in}
-use Rattle.plan.specs.declared.Dose.{Dose}
-use Rattle.plan.specs.Fields.{doseBytes}
 use Rattle.layout.specs.Layout.{filled, headBytes, periodStart, continuationStart}
 use Rattle.plan.specs.declared.Head.{Head}
 use Rattle.plan.specs.declared.Header.{Header}

@@ -6,9 +6,14 @@ use mathlib.Core.List.{List}
 use lib.Dec.{eqb, ltb}
 use Rattle.below.specs.Below.{anyBelow}
 use Rattle.block.specs.Bytes.{wordAt, longAt}
+use Rattle.plan.specs.declared.Dose.{Dose}
 use Rattle.plan.specs.Fields.{kindOf, countOf, recordAt}
 use Rattle.plan.specs.Periods.{blockAt}
 use Rattle.form.specs.Form.{sumsWrong, misplaced, daysOut, notZero, recordOut, blockOut}
+
+-- a dose record's time kind, need mark and minute, and the bytes that no field has
+abbrev pub timeOut : Dose → ℕ → Bool
+timeOut d spare = ltb 5 (d .kind) || ltb 1 (d .mark) || ltb (cond (eqb (d .kind) 5) 1439 0) (d .minute) || not (eqb spare 0)
 
 -- too many dose records, or one that is out
 unfoldable pub recordsOut : List ℕ → Bool

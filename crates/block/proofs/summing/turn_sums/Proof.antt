@@ -9,10 +9,10 @@ use Rattle.block.proofs.summing.turn_sums.Statement.{statement}
 use Rattle.block.proofs.summing.turn_sums.Tie as tie
 
 abbrev Inv-loop : tie.InvT-loop
-Inv-loop b at s₀ k₀ s k = (k ≤ 9) × (s ≡ summed noSums b at k)
+Inv-loop b at s₀ k₀ s k = (k ≤ 6) × (s ≡ summed noSums b at k)
 
 abbrev μ-loop : tie.MeasureT-loop
-μ-loop b at s₀ k₀ s k = 9 - k
+μ-loop b at s₀ k₀ s k = 6 - k
 
 loop-holds : tie.Need-loop-holds Inv-loop μ-loop
 unfolding summed
@@ -42,7 +42,7 @@ loop-again c = let l = c .before .before .before .loop in let a = c .before .bef
     (search needs, c .grow .ensures ∙ rw (c .before .word-in .ensures, l .inv .1, e) (sym (summed-next noSums (a .b .now) (a .at) (l .k))))
 
 returns : tie.Need-returns Inv-loop μ-loop
-returns c = let l = c .before .loop in let e : l .k ≡ 9 = omega arith in rw e at (l .inv .1)
+returns c = let l = c .before .loop in let e : l .k ≡ 6 = omega arith in rw e at (l .inv .1)
 
 pub turn-sums-spec : {M : Type 1} → statement M
 turn-sums-spec =

@@ -29,3 +29,6 @@ module _ (s : List ℕ) (b : AreBytes s) where
 
   pub minute-is : longAt s 0 / 4294967296 % 65536 ≡ halfAt s 4
   minute-is = omega (arith, behind-is, word-is, number-fits 2 s 4 b)
+
+  pub spare-is : longAt s 0 / 281474976710656 ≡ halfAt s 6
+  spare-is = omega (arith, behind-is, word-is, number-fits 2 s 4 b)
