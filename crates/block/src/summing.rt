@@ -44,7 +44,8 @@ fn turn_sums(b: &[u8], at: usize) -> Sums
     s
 }
 
-// Of all turns. No turn waits for another; where they were made on the way, the compiler would add each word to the sums so far.
+// Of all turns, 24 bytes each. No turn waits for another; where they were made on the way, the compiler would add each word to the
+// sums so far.
 fn turns_of(b: &[u8]) -> Turns
     requires { ⌜ 504 ≤ length (now b) ⌝ }
     ensures { λ r. ⌜ TurnsTo (now (b .entry)) 21 (r .first) (r .second) ⌝ }

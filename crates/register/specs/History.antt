@@ -26,7 +26,7 @@ acceptedWith n (release m room) ok before = before
 acceptedWith n (drop m) ok before = cond (ok && eqb m n) none before
 acceptedWith n (state m) ok before = before
 
--- "the latest one accepted under its number since it was last dropped or cleared"
+-- "the latest one accepted under that number since it was last dropped or cleared"
 unfoldable pub latest : ℕ → List Event → Option (List ℕ)
 latest n [] = none
 latest n (e ∷ h) = acceptedWith n (e .call) (isOk e) (latest n h)
@@ -45,13 +45,13 @@ signedWith n (release m room) ok before = before
 signedWith n (drop m) ok before = cond (ok && eqb m n) [] before
 signedWith n (state m) ok before = before
 
--- who has "since signed" what under n, the latest first
+-- who has "since .. signed" what under n, the latest first
 unfoldable pub signatures : ℕ → List Event → List Signature
 signatures n [] = []
 signatures n (e ∷ h) = signedWith n (e .call) (isOk e) (signatures n h)
 
--- "a released plan is byte for byte the latest one accepted under its number .., and two different signers have since signed
--- exactly those bytes"
+-- "A released plan is then, byte for byte, the latest one accepted under that number since it was last dropped or cleared, and two
+-- different signers have since each signed exactly those bytes."
 pub record Justified (n : ℕ) (h : List Event) (p : List ℕ) : Type 0 where
   pub accepted : latest n h ≡ some p
   pub one : ℕ

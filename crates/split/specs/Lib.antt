@@ -1,4 +1,4 @@
--- Document 01, "Split". Days is for the law that splitting loses and invents no dose.
+-- Document 01, "Split". Days is for the law that "Splitting loses and invents nothing".
 pub mod Parts
 pub mod Split
 pub mod Days
