@@ -1,14 +1,20 @@
-/* Chivetassel for C: dosage plans judged by the rules of document 01. The calls are in the crate `screen`:
-   `rt staticlib screen` proves it and writes target/staticlib/libscreen.a, for x86-64, which needs nothing but the C library.
+/* Chivetassel for C: dosage plans judged by the rules of document 01. `bash install PREFIX` proves the library and installs it
+   with this header, for x86-64; it needs nothing but the C library. This header is C99 and C++ and has no code:
+   chivetassel_text.h has the words for each number.
 
-   Every call takes every input: nothing need be checked before. Bytes are passed as a pointer and their number; with a
-   number of 0 the pointer may be NULL. Buffers that one call is given must not overlap, and need not be aligned. Calls keep
-   no state: they may be made from several threads at once, as long as none writes bytes that another uses. This header
-   is C99 and C++.
+   Every call takes every input: no length, number or byte need be checked before. Bytes are passed as a pointer and their number;
+   with a number of 0 the pointer may be NULL. They need not be aligned. Calls keep no state: they may be made from several
+   threads at once, as long as none writes bytes that another uses.
+
+   Buffers must not overlap. One thing is asked of the caller, because no call can see it: what a call writes overlaps nothing
+   else that it is given. (What it only reads may overlap.) Otherwise nothing is promised, and no refusal tells: with the plan's
+   own buffer as a part, split answers DONE and the doses are gone. Such parameters are declared `restrict`, so that a
+   compiler may warn, and each such call says it again.
 
    A call returns number + 256 * place. The number is 0 where nothing is refused, else that of the first refusal in the
    order set by document 01; the place is the block of the plan that breaks a rule, counted from 0, or 255 where there is
-   none. So what means that nothing is refused is not 0 but CHIVETASSEL_DONE, 65,280: number 0 at place 255.
+   none. So no answer is 0, and none is false: what means that nothing is refused is CHIVETASSEL_DONE, 65,280, number 0 at
+   place 255. Ask CHIVETASSEL_IS_DONE(answer). Compilers that can do so warn where an answer is not looked at.
 
    A refused call writes nothing, nowhere. All numbers in bytes stand least byte first. */
 #ifndef CHIVETASSEL_H
@@ -17,12 +23,36 @@
 #include <stddef.h>
 #include <stdint.h>
 
+/* The version of this header: the first number moves where an old caller has to be changed, the second where something is
+   new, the third where something is mended. chivetassel_version says it of the library that was linked. */
+#define CHIVETASSEL_VERSION 10000u /* 10,000 * first + 100 * second + third */
+#define CHIVETASSEL_VERSION_TEXT "1.0.0"
+
+/* On what a call writes, and on what it reads beside that: see "Buffers must not overlap". */
+#if !defined(__cplusplus)
+#define CHIVETASSEL_RESTRICT restrict
+#elif defined(__GNUC__) || defined(_MSC_VER)
+#define CHIVETASSEL_RESTRICT __restrict
+#else
+#define CHIVETASSEL_RESTRICT
+#endif
+
+/* On what gives an answer. */
+#if defined(__GNUC__)
+#define CHIVETASSEL_MUST_USE __attribute__((warn_unused_result))
+#elif defined(__cplusplus) && __cplusplus >= 201703L
+#define CHIVETASSEL_MUST_USE [[nodiscard]]
+#else
+#define CHIVETASSEL_MUST_USE
+#endif
+
 #ifdef __cplusplus
 extern "C" {
 #endif
 
 #define CHIVETASSEL_DONE 65280u
 
+#define CHIVETASSEL_IS_DONE(answer) ((answer) == CHIVETASSEL_DONE)
 #define CHIVETASSEL_NUMBER(answer) ((answer) & 255u)
 #define CHIVETASSEL_PLACE(answer) ((answer) >> 8 & 255u)
 
@@ -90,8 +120,13 @@ extern "C" {
 #define CHIVETASSEL_TOO_FEW_SIGNERS 38u     /* fewer than two */
 #define CHIVETASSEL_SHORT_ROOM 39u          /* release: the room has less than CHIVETASSEL_PLAN_ROOM bytes */
 
+/* The version of the header that the library was built from. Where it is not CHIVETASSEL_VERSION, library and header do not
+   belong together: a program asks once, when it starts. */
+uint32_t chivetassel_version(void);
+
 /* The verdict on a plan: CHIVETASSEL_DONE exactly where no rule is broken, else the lowest broken rule, 1 to 17, and the
    lowest block that breaks it. */
+CHIVETASSEL_MUST_USE
 uint32_t chivetassel_verdict(const uint8_t *plan, size_t plan_len);
 
 #define CHIVETASSEL_LOW 1u                  /* choices: low amounts */
@@ -104,15 +139,21 @@ uint32_t chivetassel_verdict(const uint8_t *plan, size_t plan_len);
 /* How far a pack lasts from day `start` on. Amounts are hundredths of the plan's unit; choice 1 counts low amounts, 2 upper
    ones. A pause is 8 bytes: its first and its last day, which may be the open mark, 32 bits each. `out` gets four 64-bit
    numbers: days covered, last covered day (the open mark where there is none), rest, and why it ends (1 the next day needs
-   more than the rest, 2 the stop day is reached, 3 the same and it is the calendar's last day). */
-uint32_t chivetassel_supply(const uint8_t *plan, size_t plan_len, uint32_t start, uint64_t pack, uint32_t choice,
-                            const uint8_t *pauses, size_t pauses_len, uint8_t *out, size_t out_len);
+   more than the rest, 2 the stop day is reached, 3 the same and it is the calendar's last day). `out` must overlap neither
+   `plan` nor `pauses`. */
+CHIVETASSEL_MUST_USE
+uint32_t chivetassel_supply(const uint8_t *CHIVETASSEL_RESTRICT plan, size_t plan_len, uint32_t start, uint64_t pack,
+                            uint32_t choice, const uint8_t *CHIVETASSEL_RESTRICT pauses, size_t pauses_len,
+                            uint8_t *CHIVETASSEL_RESTRICT out, size_t out_len);
 
 /* Splits a plan into its fixed and its as-needed part. `fixed` and `need` have at least CHIVETASSEL_PART_ROOM bytes each. Each
    part stands at the beginning of its buffer, and `out` gets two 64-bit numbers: the length of the fixed part and that of the
-   need part. Bytes behind a part stay as they were. */
-uint32_t chivetassel_split(const uint8_t *plan, size_t plan_len, uint8_t *fixed, size_t fixed_len, uint8_t *need,
-                           size_t need_len, uint8_t *out, size_t out_len);
+   need part. Bytes behind a part stay as they were. None of the four buffers may overlap another: to split a plan in its own
+   buffer loses doses. */
+CHIVETASSEL_MUST_USE
+uint32_t chivetassel_split(const uint8_t *CHIVETASSEL_RESTRICT plan, size_t plan_len, uint8_t *CHIVETASSEL_RESTRICT fixed,
+                           size_t fixed_len, uint8_t *CHIVETASSEL_RESTRICT need, size_t need_len,
+                           uint8_t *CHIVETASSEL_RESTRICT out, size_t out_len);
 
 #define CHIVETASSEL_FIXED_LIST 1u
 #define CHIVETASSEL_NEED_LIST 2u
@@ -120,13 +161,19 @@ uint32_t chivetassel_split(const uint8_t *plan, size_t plan_len, uint8_t *fixed,
 /* Where in a part the blocks of its first period lie that has `day`: list 1 asks of the fixed part, 2 of the need part. Both
    are given by their own lengths, as split says them. `out` gets two 64-bit numbers: where the blocks begin in the wanted part,
    and how many bytes they are. Both are 0 for another list number, for a part that breaks one of rules 1 to 4 (its limit
-   is CHIVETASSEL_PART_ROOM), and where no period has the day. Refused only with CHIVETASSEL_SHORT_BUFFER. */
-uint32_t chivetassel_show_day(const uint8_t *fixed, size_t fixed_len, const uint8_t *need, size_t need_len, uint32_t list,
-                              uint32_t day, uint8_t *out, size_t out_len);
+   is CHIVETASSEL_PART_ROOM), and where no period has the day. Refused only with CHIVETASSEL_SHORT_BUFFER. `out` must overlap
+   neither part. */
+CHIVETASSEL_MUST_USE
+uint32_t chivetassel_show_day(const uint8_t *CHIVETASSEL_RESTRICT fixed, size_t fixed_len,
+                              const uint8_t *CHIVETASSEL_RESTRICT need, size_t need_len, uint32_t list, uint32_t day,
+                              uint8_t *CHIVETASSEL_RESTRICT out, size_t out_len);
 
 /* The four sums of a day's doses, into `out` as four 64-bit numbers: unmarked low, unmarked upper, marked low, marked upper.
-   A plan that is not accepted is refused as by the verdict; a day that no period has gets four zeros. */
-uint32_t chivetassel_day_sums(const uint8_t *plan, size_t plan_len, uint32_t day, uint8_t *out, size_t out_len);
+   A plan that is not accepted is refused as by the verdict; a day that no period has gets four zeros. `out` must not overlap
+   `plan`. */
+CHIVETASSEL_MUST_USE
+uint32_t chivetassel_day_sums(const uint8_t *CHIVETASSEL_RESTRICT plan, size_t plan_len, uint32_t day,
+                              uint8_t *CHIVETASSEL_RESTRICT out, size_t out_len);
 
 /* The approval register is a lent buffer of slots of CHIVETASSEL_SLOT bytes, at most CHIVETASSEL_SLOTS_MOST; bytes behind them
    are neither read nor written. Begin with chivetassel_clear, and change the bytes by these calls alone: then the register is
@@ -134,25 +181,38 @@ uint32_t chivetassel_day_sums(const uint8_t *plan, size_t plan_len, uint32_t day
    or cleared, signed since by two different signers. */
 
 /* Frees every slot, whatever stood there. Refused only with CHIVETASSEL_NOT_SOUND, where there is no slot. */
+CHIVETASSEL_MUST_USE
 uint32_t chivetassel_clear(uint8_t *reg, size_t reg_len);
 
 /* Takes an accepted plan in. A number that is held must come with a greater revision: it takes the old plan's place, and the
-   signatures are gone. */
-uint32_t chivetassel_submit(uint8_t *reg, size_t reg_len, const uint8_t *plan, size_t plan_len);
+   signatures are gone. `plan` must not lie in the register. */
+CHIVETASSEL_MUST_USE
+uint32_t chivetassel_submit(uint8_t *CHIVETASSEL_RESTRICT reg, size_t reg_len, const uint8_t *CHIVETASSEL_RESTRICT plan,
+                            size_t plan_len);
 
-/* Signs the plan as seen, which must be byte for byte the one held under its number. */
-uint32_t chivetassel_sign(uint8_t *reg, size_t reg_len, uint32_t signer, const uint8_t *plan, size_t plan_len);
+/* Signs the plan as seen, which must be byte for byte the one held under its number. `plan` must not lie in the register: those
+   bytes are what is held, and not what was seen. */
+CHIVETASSEL_MUST_USE
+uint32_t chivetassel_sign(uint8_t *CHIVETASSEL_RESTRICT reg, size_t reg_len, uint32_t signer,
+                          const uint8_t *CHIVETASSEL_RESTRICT plan, size_t plan_len);
 
 /* Puts the plan with this number, which two have signed, into `room`, at least CHIVETASSEL_PLAN_ROOM bytes, and its length into
-   `out` as a 64-bit number. Bytes behind the plan stay as they were, and so does the register. */
-uint32_t chivetassel_release(const uint8_t *reg, size_t reg_len, uint32_t number, uint8_t *room, size_t room_len,
-                             uint8_t *out, size_t out_len);
+   `out` as a 64-bit number. Bytes behind the plan stay as they were, and so does the register. `room`, `out` and the register
+   must not overlap: with `out` in the room, the length is written over the plan. */
+CHIVETASSEL_MUST_USE
+uint32_t chivetassel_release(const uint8_t *CHIVETASSEL_RESTRICT reg, size_t reg_len, uint32_t number,
+                             uint8_t *CHIVETASSEL_RESTRICT room, size_t room_len, uint8_t *CHIVETASSEL_RESTRICT out,
+                             size_t out_len);
 
 /* Frees the slot of the plan with this number. */
+CHIVETASSEL_MUST_USE
 uint32_t chivetassel_drop(uint8_t *reg, size_t reg_len, uint32_t number);
 
-/* The revision of the plan with this number and how many have signed it, 0 to 2, into `out` as two 64-bit numbers. */
-uint32_t chivetassel_state(const uint8_t *reg, size_t reg_len, uint32_t number, uint8_t *out, size_t out_len);
+/* The revision of the plan with this number and how many have signed it, 0 to 2, into `out` as two 64-bit numbers. `out` must
+   not lie in the register. */
+CHIVETASSEL_MUST_USE
+uint32_t chivetassel_state(const uint8_t *CHIVETASSEL_RESTRICT reg, size_t reg_len, uint32_t number,
+                           uint8_t *CHIVETASSEL_RESTRICT out, size_t out_len);
 
 #ifdef __cplusplus
 }

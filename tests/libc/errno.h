@@ -2,5 +2,9 @@
 #define LIBC_ERRNO_H
 int *__errno_location(void);
 #define errno (*__errno_location())
-#define EEXIST 17
+#define ENOENT 2
+#define EINTR 4
+#define EIO 5
+#define EWOULDBLOCK 11
+#define ENOSPC 28
 #endif

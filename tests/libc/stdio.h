@@ -1,7 +1,11 @@
 #ifndef LIBC_STDIO_H
 #define LIBC_STDIO_H
 #include <stddef.h>
+#ifdef __cplusplus
+extern "C" {
+#endif
 typedef struct _IO_FILE FILE;
+extern FILE *stdin;
 extern FILE *stdout;
 extern FILE *stderr;
 int printf(const char *, ...) __attribute__((format(printf, 1, 2)));
@@ -14,4 +18,7 @@ int fflush(FILE *);
 size_t fread(void *, size_t, size_t, FILE *);
 size_t fwrite(const void *, size_t, size_t, FILE *);
 int rename(const char *, const char *);
+#ifdef __cplusplus
+}
+#endif
 #endif

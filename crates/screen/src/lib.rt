@@ -28,7 +28,15 @@ ghost use Rattle.split.specs.Parts.{partBytes};
 ghost use Rattle.split.specs.Split.{splitOf, leftBy};
 ghost use Rattle.showing.specs.Showing.{stretchOf};
 ghost use Rattle.register.specs.Steps.{Call.clear, Call.submit, Call.sign, Call.release, Call.drop as dropped, Call.state, answered, after, roomAfter};
-ghost use Rattle.screen.specs.Calls.{written, tooShort, code26, supplyCode, supplyOut, splitCode, splitOut, stretchOut, releasedOut, stateOut, sumsOut};
+ghost use Rattle.screen.specs.Calls.{version, written, tooShort, code26, supplyCode, supplyOut, splitCode, splitOut, stretchOut, releasedOut, stateOut, sumsOut};
+
+// The version of the header that declares these calls, so that a caller sees whether this library is that header's.
+#[no_mangle]
+pub extern "C" fn chivetassel_version() -> u32
+    ensures { λ r. ⌜ r ≡ version ⌝ }
+{
+    10000
+}
 
 // The verdict on a plan: the number plus 256 times the place.
 #[no_mangle]

@@ -18,6 +18,9 @@ is-period-requires c κs = search needs
 write-period-requires : tie.Need-write-period-requires Inv-loop μ-loop
 write-period-requires c κs = search needs
 
+returns : tie.Need-returns Inv-loop μ-loop
+returns c = search needs
+
 add-b : tie.Need-add-b Inv-loop μ-loop
 add-b c = search needs
 
@@ -27,8 +30,8 @@ loop-less c = search needs
 loop-again : tie.Need-loop-again Inv-loop μ-loop
 loop-again c = search needs
 
-returns : tie.Need-returns Inv-loop μ-loop
-returns c = search needs
+returns-2 : tie.Need-returns-2 Inv-loop μ-loop
+returns-2 c = search needs
 
 pub write-part-spec : {M : Type 1} → statement M
 write-part-spec =
@@ -39,7 +42,8 @@ write-part-spec =
     loop-holds
     is-period-requires
     write-period-requires
+    returns
     add-b
     loop-less
     loop-again
-    returns)
+    returns-2)

@@ -1,4 +1,4 @@
-/* Every call and constant of the header, used once, as C and as C++ have to take it. Compiled by tests/header, never run. */
+/* Every call and constant of the header, used once, as C and as C++ have to take it. Compiled by tests/headers/run, never run. */
 #include "chivetassel.h"
 #include "chivetassel.h"
 
@@ -22,7 +22,8 @@ uint8_t sums[CHIVETASSEL_DAY_SUMS_OUT], length[CHIVETASSEL_RELEASE_OUT], state[C
 uint32_t every_call(void);
 
 uint32_t every_call(void) {
-    uint32_t all = chivetassel_verdict(plan, CHIVETASSEL_BLOCK);
+    uint32_t all = chivetassel_version() ^ CHIVETASSEL_VERSION;
+    all |= chivetassel_verdict(plan, CHIVETASSEL_BLOCK);
     all |= chivetassel_supply(plan, sizeof plan, 0, CHIVETASSEL_PACK_MOST, CHIVETASSEL_LOW, pauses, sizeof pauses, covered, sizeof covered);
     all |= chivetassel_split(plan, sizeof plan, fixed, sizeof fixed, need, sizeof need, lengths, sizeof lengths);
     all |= chivetassel_show_day(fixed, sizeof fixed, need, sizeof need, CHIVETASSEL_NEED_LIST, 0, stretch, sizeof stretch);
@@ -31,7 +32,7 @@ uint32_t every_call(void) {
     all |= chivetassel_sign(reg, sizeof reg, 1, plan, sizeof plan) | chivetassel_drop(reg, sizeof reg, 1);
     all |= chivetassel_release(reg, sizeof reg, 1, plan, sizeof plan, length, sizeof length);
     all |= chivetassel_state(reg, sizeof reg, 1, state, sizeof state);
-    return all == CHIVETASSEL_DONE ? CHIVETASSEL_NUMBER(all) : CHIVETASSEL_PLACE(all);
+    return CHIVETASSEL_IS_DONE(all) ? CHIVETASSEL_NUMBER(all) : CHIVETASSEL_PLACE(all);
 }
 
 #if CHIVETASSEL_NUMBER(CHIVETASSEL_DONE) != 0 || CHIVETASSEL_PLACE(CHIVETASSEL_DONE) != 255
