@@ -29,10 +29,10 @@
 #define CHIVETASSEL_VERSION_TEXT "1.0.0"
 
 /* On what a call writes, and on what it reads beside that: see "Buffers must not overlap". */
-#if !defined(__cplusplus)
-#define CHIVETASSEL_RESTRICT restrict
-#elif defined(__GNUC__) || defined(_MSC_VER)
+#if defined(__GNUC__) || defined(_MSC_VER)
 #define CHIVETASSEL_RESTRICT __restrict
+#elif !defined(__cplusplus)
+#define CHIVETASSEL_RESTRICT restrict
 #else
 #define CHIVETASSEL_RESTRICT
 #endif

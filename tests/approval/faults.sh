@@ -96,6 +96,21 @@ test_released_killed() {
     [ "$n" -gt 4 ] && [ "$n" -lt 99 ] || wrong "$n calls, which cannot be"
 }
 
+test_new_killed() {
+    local n
+    done_ new 2
+    cp register whole
+    for n in $(seq 99); do
+        rm -f register*
+        faulty "kill:any:$n" new 2
+        [ "$ended" -ne 0 ] || break
+        if [ -e register ]; then same register whole "killed at call $n: half a register was begun"; else done_ new 2; fi
+        done_ clear
+        nothing_beside
+    done
+    [ "$n" -gt 5 ] && [ "$n" -lt 99 ] || wrong "$n calls, which cannot be"
+}
+
 # begin_faulty FAULT WORD ..: in the background, with its own files; its process is $!
 begin_faulty() { FAULT=$1 bash "$emulate" "$work/faulty" register "${@:2}" >said."$2" 2>told."$2" & }
 
@@ -111,7 +126,7 @@ test_two_screens() {
         stopped "$first"
         begin_faulty none submit 5
         second=$!
-        for _ in $(seq 250); do [ -s told.submit ] || sleep 0.02; done
+        for _ in $(seq 1500); do [ -s told.submit ] || sleep 0.02; done
         grep -q "another screen is at work" told.submit || wrong "nothing was told to the one who waits"
         kill -0 "$second" 2>/dev/null || wrong "the second did not wait"
         held 4 0
@@ -133,7 +148,7 @@ test_lock_removed() {
     rm -f register.*
     begin_faulty stop:write:1 submit 5
     second=$!
-    for _ in $(seq 250); do [ -s told.submit ] || is_stopped "$second" || sleep 0.02; done
+    for _ in $(seq 1500); do [ -s told.submit ] || is_stopped "$second" || sleep 0.02; done
     kill -s CONT "$first"
     wait "$first" && wrong "the first is done, though what it wrote was removed"
     held 4 0

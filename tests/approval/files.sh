@@ -54,11 +54,11 @@ test_new_over_register() {
     ln -s register link
     ln -s nowhere dangling
     mkdir folder
-    for name in register link dangling folder; do
+    for at in register link dangling folder; do
         cp register before
-        screen_on "$name" new 2
-        expect 3 "new where $name is"
-        same register before "new where $name is: the register was changed"
+        screen_on "$at" new 2
+        expect 3 "new where $at is"
+        same register before "new where $at is: the register was changed"
     done
     [ -L link ] && [ -L dangling ] && [ ! -e nowhere ] || wrong "what was there was replaced"
     held 4 0
@@ -116,8 +116,12 @@ test_cut_short() {
 
 # Two users of one group, where this can be tried: the file stays both's.
 test_second_pharmacist() {
-    [ "$(id -u)" = 0 ] && command -v setpriv >/dev/null || return 0
-    as() { setpriv --reuid="$1" --regid="$1" --groups=7000 bash "$emulate" "$work/approval" register "${@:2}" >said 2>told; }
+    by() { setpriv --reuid="$1" --regid="$1" --groups=7000 bash "$emulate" "${@:2}"; }
+    as() { by "$1" "$work/approval" register "${@:2}" >said 2>told; }
+    if ! by 7001 "$work/renumber" 7 4 <"$samples/revision-4.plan" 2>/dev/null | cmp -s - "$samples/revision-4.plan"; then
+        echo "approval: no second user can be tried here"
+        return 0
+    fi
     mkdir shared
     chgrp 7000 shared
     chmod 2770 shared
@@ -136,7 +140,7 @@ test_second_pharmacist() {
     same out 4 "the released plan"
     [ "$(stat -c '%a %g' register)" = "660 7000" ] || wrong "mode and group are $(stat -c '%a %g' register)"
     # one that was killed leaves nothing that the other has to clean up
-    { FAULT=kill:rename:1 setpriv --reuid=7001 --regid=7001 --groups=7000 bash "$emulate" "$work/faulty" register drop 7 >said 2>told; } 2>/dev/null &&
+    { FAULT=kill:rename:1 by 7001 "$work/faulty" register drop 7 >said 2>told; } 2>/dev/null &&
         wrong "it should have been killed"
     as 7002 submit 5 || wrong "the second changes what the first was killed at"
     # who may not write the register may not change it either, and the superuser leaves it its owner's

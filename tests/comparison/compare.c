@@ -6,6 +6,7 @@
    Ends with 1 at the first difference, which is told and kept in files of the current folder, and where an answer that
    document 01 names never came up: a comparison that does not ask is worth nothing. */
 #include "ask.h"
+#include "chivetassel.h"
 #include "draft.h"
 
 #include <stdio.h>
@@ -74,6 +75,10 @@ int main(int words, char **word) {
     if (words != 3) {
         fprintf(stderr, "usage: compare COUNT SEED, or compare =INPUT SEED\n");
         return 2;
+    }
+    if (chivetassel_version() != CHIVETASSEL_VERSION) {
+        printf("DIFFERENCE in version: the library was built from another header\n");
+        return 1;
     }
     uint64_t seed = strtoull(word[2], NULL, 10);
     if (word[1][0] == '=') {
