@@ -34,8 +34,10 @@ static bool strike(void) {
     const char *fault = getenv("FAULT");
     if (begins(fault, "kill"))
         raise(SIGKILL);
-    if (begins(fault, "interrupt"))
+    if (begins(fault, "interrupt")) {
+        signal(SIGINT, SIG_DFL); /* a test that runs in the background has it ignored */
         raise(SIGINT);
+    }
     if (begins(fault, "stop"))
         raise(SIGSTOP);
     errno = ENOSPC;

@@ -11,6 +11,7 @@ typedef struct {
 #define SIGTERM 15
 #define SIGSTOP 19
 #define SIGXFSZ 25
+#define SIG_DFL ((void (*)(int))0)
 #define SIG_IGN ((void (*)(int))1)
 #define SIG_BLOCK 0
 #define SIG_SETMASK 2
