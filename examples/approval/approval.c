@@ -14,18 +14,17 @@
 
 #include <fcntl.h>
 #include <signal.h>
-#include <stdbool.h>
 #include <stdio.h>
 #include <stdlib.h>
 #include <string.h>
-#include <unistd.h>
 
 /* Where a plan breaks a rule: from rule 5 on the place is a period's first block. */
 static void tell_place(uint32_t number, uint32_t place) {
     char first[WORD_ROOM], last[WORD_ROOM];
     printf("where: block %u", place);
     if (number >= CHIVETASSEL_RULE_TREATMENT)
-        printf(", the period from %s to %s", day_in(first, word_at(plan, 512 * place + 4)), day_in(last, word_at(plan, 512 * place + 8)));
+        printf(", the period from %s to %s", day_in(first, word_at(plan, 512 * place + 4)),
+               day_in(last, word_at(plan, 512 * place + 8)));
     else if (place == 0)
         printf(", the head of the plan");
     else

@@ -8,6 +8,7 @@
 
 #include <errno.h>
 #include <stdlib.h>
+#include <unistd.h>
 
 static char path[PATH_ROOM];
 static struct stat rights;
@@ -24,6 +25,8 @@ static void find_old(const char *name) {
         fail(name, "is no ordinary file, and no plan is written to it");
     if (is_register(&rights))
         fail(name, "is the register, and no plan is written to it");
+    if (access(path, W_OK) != 0) /* the folder's mode would be enough to put another in its place */
+        fail_by_system(name, "cannot be written");
 }
 
 void find_out(const char *name) {

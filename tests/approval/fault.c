@@ -1,4 +1,4 @@
-/* Linked into the screen by tests/approval: it stops, is killed or fails at a call that it makes of the C library.
+/* Linked into the screen by tests/approval/run: it stops, is killed or fails at a call that it makes of the C library.
 
        FAULT=ACTION:CALL:N     at its Nth call of CALL, or of any of those below where CALL is "any"
 

@@ -1,4 +1,5 @@
-# Kills, Ctrl-C, full disks, and two screens at once. Each call that the screen makes is one place to be struck.
+# Kills, Ctrl-C, full disks, and two screens at once. Each call by which the screen opens, locks, writes, names or removes a file is one
+# place to be struck.
 
 # struck ACTION WORD ..: makes a change with a fault at its first call, at its second, and so on. Each time the register has to be
 # the old one or the new one, and then the same change has to go through with nothing cleaned up.
@@ -114,8 +115,8 @@ test_new_killed() {
 # begin_faulty FAULT WORD ..: in the background, with its own files; its process is $!
 begin_faulty() { FAULT=$1 bash "$emulate" "$work/faulty" register "${@:2}" >said."$2" 2>told."$2" & }
 
-# One screen is stopped within its change. Another waits for it and says so, and both changes are made; where the first is killed
-# instead, the other goes on at once.
+# One screen is stopped within its change, a signature. Another, which takes in plan 8, waits for it and says so. Then both changes are
+# there; where the first is killed instead, the other goes on at once, and the signature is not.
 test_two_screens() {
     local first second end
     for end in CONT KILL; do
@@ -124,7 +125,8 @@ test_two_screens() {
         begin_faulty stop:rename:1 sign 1001 4
         first=$!
         stopped "$first"
-        begin_faulty none submit 5
+        bash "$emulate" "$work/renumber" 8 1 <4 >8
+        begin_faulty none submit 8
         second=$!
         for _ in $(seq 1500); do [ -s told.submit ] || sleep 0.02; done
         grep -q "another screen is at work" told.submit || wrong "nothing was told to the one who waits"
@@ -133,7 +135,8 @@ test_two_screens() {
         kill -s "$end" "$first"
         { wait "$first"; } 2>/dev/null && [ "$end" = CONT ] || [ "$end" = KILL ] || wrong "the first was not done"
         { wait "$second"; } 2>/dev/null || wrong "the second was not done"
-        held 5 0
+        if [ "$end" = CONT ]; then held 4 1; else held 4 0; fi
+        done_ state 8
     done
 }
 

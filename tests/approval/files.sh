@@ -138,6 +138,8 @@ test_second_pharmacist() {
     as 7001 sign 7001 4 || wrong "the first signs after the second"
     as 7002 release 7 out || wrong "the second releases"
     same out 4 "the released plan"
+    chmod 444 out
+    ! as 7002 release 7 out || wrong "a file that may not be written was replaced"
     [ "$(stat -c '%a %g' register)" = "660 7000" ] || wrong "mode and group are $(stat -c '%a %g' register)"
     # one that was killed leaves nothing that the other has to clean up
     { FAULT=kill:rename:1 by 7001 "$work/faulty" register drop 7 >said 2>told; } 2>/dev/null &&
