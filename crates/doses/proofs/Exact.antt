@@ -87,7 +87,8 @@ module _ (p : List ℕ) (d : ℕ) (ok : InRange p) (g : Dose → ℕ) (small : (
       (λ (t : covers p d b ≡ false). rw t (omega arith))
       (bool-cases (covers p d b))
 
-  day-small : sumOver g (dosesOn p d) < 2 ^ 64
+  -- 64 periods of 1,280 doses at the most
+  pub day-small : sumOver g (dosesOn p d) ≤ 819199999918080
   unfolding dosesOn
   day-small =
       rw (sum-join g (min (blocksOf p) 64) (λ b. cond (covers p d b) (dosesOfPeriod p d b) []))

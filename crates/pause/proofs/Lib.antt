@@ -2,3 +2,4 @@
 pub mod Lists
 pub mod Filled
 pub mod Walk
+pub mod Loop

@@ -1,22 +1,20 @@
--- Laws of lists of pauses: how long each is, what stands at a place, and that the first 32 of a list that is no longer say what the list says. Assumes nothing.
-use Prim.Native.Nat.{ℕ, zero, suc, _+_, _*_, _/_, _≤_, _<_}
-use mathlib.Core.Bool.{Bool, false, _||_}
+-- Laws of lists of pauses: how long each is, what stands at a place, and what the C call lends. Assumes nothing.
+use Prim.Native.Nat.{ℕ, zero, suc, _+_, _*_, _/_, _%_, _≤_, _<_}
+use mathlib.Core.Bool.{Bool, true, false, not, _||_}
 use mathlib.Core.List.{List, [], _∷_, _++_}
 use mathlib.Core.Logic.{⊎-elim}
 use mathlib.Core.Path.{_≡_, refl, sym, ap, _∙_}
 use native.Mathlib.Nat.{eq-or-lt-of-le, not-suc-le-zero}
 use native.Mathlib.Omega.{arith}
-use lib.Dec.{leb, ltb}
-use lib.ListN.{length, getD, length-append, List·getD-append, List·getD-eq-default}
-use lib.Seq.{getD-append-add}
-use borrow.Author.Tests.{leb-true, lt-ltb, ltb-false}
-use Rattle.below.proofs.Tests.{bool-iff, true-not-false, not-true-false, and-both, or-neither, le-or-lt}
-use Rattle.below.proofs.Search.{any-hit, any-some, any-same}
-use Rattle.below.specs.Below.{anyBelow}
+use lib.Dec.{eqb, ltb}
+use lib.ListN.{length, getD, take, replicate, length-append, List·getD-append, List·getD-eq-default}
+use lib.Seq.{getD-append-add, getD-take, length-take-le, ext-getD}
+use borrow.Author.Tests.{ltb-false}
+use Rattle.below.proofs.Tests.{bool-cases, true-not-false, not-true-false, or-either, or-neither, or-true}
+use Rattle.below.proofs.Search.{any-hit}
 use Rattle.block.specs.Bytes.{wordAt}
 use Rattle.pause.specs.declared.Pause.{Pause}
-use Rattle.pause.specs.declared.Pauses.{Pauses}
-use Rattle.pause.specs.Pauses.{noDay, holds, isPaused, isOut, areOutOf, areOut, firstOf, packedIn, pausesIn}
+use Rattle.pause.specs.Pauses.{noDay, isOut, areOut, firstOf, packedIn, pausesIn, lentOf}
 
 -- what stands at a place that a list has, whatever stands past its end
 pub at-any : (xs : List Pause) (i : ℕ) (a b : Pause) → i < length xs → getD xs i a ≡ getD xs i b
@@ -68,46 +66,63 @@ module _ (s : List ℕ) where
   pub pauses-past : (i : ℕ) → length s / 8 ≤ i → getD (pausesIn s) i noDay ≡ noDay
   pauses-past i l = List·getD-eq-default (pausesIn s) noDay (omega (arith, length-pauses))
 
--- the record that stands past a list's end holds no day
-pub no-day : (d : ℕ) → holds noDay d ≡ false
-no-day d =
-    not-true-false (holds noDay d)
-    (λ e.
-    let b = and-both (leb 4294967295 d) (leb d 0) e in
-    absurd (omega (arith, leb-true 4294967295 d (b .0), leb-true d 0 (b .1))))
+-- a list that is no longer than its first n is the front of them
+pub front-of-first : (n : ℕ) (xs : List Pause) → length xs ≤ n → take (length xs) (firstOf n xs) ≡ xs
+front-of-first n xs few =
+    let long : length (take (length xs) (firstOf n xs)) ≡ length xs = length-take-le (length xs) (firstOf n xs) (omega (arith, length-first xs n)) in
+    ext-getD noDay (take (length xs) (firstOf n xs)) xs long
+    (λ i l.
+    let h : i < length xs = omega (arith, long) in
+    getD-take (length xs) (firstOf n xs) i noDay h ∙ first-at xs n i (omega arith))
 
--- so a padded list holds the days that the list holds
-pub paused-first : (n : ℕ) (xs : List Pause) (d : ℕ) → length xs ≤ n → isPaused (firstOf n xs) d ≡ isPaused xs d
-unfolding isPaused
-paused-first n xs d few =
-    let at : ℕ → Bool = λ i. holds (getD xs i noDay) d in
-    let same : anyBelow n (λ i. holds (getD (firstOf n xs) i noDay) d) ≡ anyBelow n at =
-    any-same (λ i. holds (getD (firstOf n xs) i noDay) d) at n (λ k l. ap (λ (x : Pause). holds x d) (first-at xs n k l)) in
-    rw (length-first xs n)
-    (same ∙
-    bool-iff (anyBelow n at) (anyBelow (length xs) at)
-    (λ e.
-    let s = any-some at n e in
-    ⊎-elim
-    (λ (past : length xs ≤ s .0).
-    absurd (true-not-false (s .2) (ap (λ (x : Pause). holds x d) (List·getD-eq-default xs noDay past) ∙ no-day d)))
-    (λ l. any-hit at l (s .2))
-    (le-or-lt (length xs) (s .0)))
-    (λ e. let s = any-some at (length xs) e in any-hit at (omega (arith, s .1)) (s .2)))
+-- the record that stands past a list's end is out, so a list of it is
+no-day-out : areOut (noDay ∷ []) ≡ true
+unfolding areOut
+no-day-out = any-hit (λ i. isOut (getD (noDay ∷ []) i noDay)) (let l : 0 < 1 = omega arith in l) refl
 
--- and the pauses by value are out where the list is
-pub out-first : (ps : Pauses) (xs : List Pause) → ps .count ≡ length xs → ps .at ≡ firstOf 32 xs → areOutOf (ps .count) (ps .at) ≡ areOut xs
-unfolding areOutOf
-out-first ps xs n at =
-    rw (n, at)
-    (⊎-elim
-    (λ (few : length xs ≤ 32).
-    ap (λ (b : Bool). ltb 32 (length xs) || b)
-    (any-same (λ i. isOut (getD (firstOf 32 xs) i noDay)) (λ i. isOut (getD xs i noDay)) (length xs) (λ k l. ap (λ (x : Pause). isOut x) (first-at xs 32 k (omega arith)))))
-    (λ many. rw (lt-ltb 32 (length xs) many))
-    (le-or-lt (length xs) 32))
+-- and an array that begins with it, filled up, has nothing else
+pub no-day-first : firstOf 32 (noDay ∷ []) ≡ replicate 32 noDay
+unfolding firstOf
+no-day-first = refl
 
--- a list that is not out is short enough to be kept whole
-pub in-few : (xs : List Pause) → areOut xs ≡ false → length xs ≤ 32
-unfolding areOutOf
-in-few xs e = ltb-false 32 (length xs) (or-neither _ _ e .0)
+-- what the C call lends, of bytes that are `odd`, no whole number of pauses, or `many`, more than 32
+module _ (s : List ℕ) where
+  abbrev odd : Bool
+  odd = not (eqb (length s % 8) 0)
+
+  abbrev many : Bool
+  many = ltb 32 (length s / 8)
+
+  pub lent-bad : (odd || many) ≡ true → lentOf s ≡ (noDay ∷ [])
+  unfolding lentOf
+  lent-bad e = rw e
+
+  pub lent-good : (odd || many) ≡ false → lentOf s ≡ pausesIn s
+  unfolding lentOf
+  lent-good e = rw e
+
+  pub lent-few : length (lentOf s) ≤ 32
+  lent-few =
+      ⊎-elim
+      (λ (e : (odd || many) ≡ true). rw (lent-bad e) (omega arith))
+      (λ (e : (odd || many) ≡ false). rw (lent-good e) (omega (arith, length-pauses s, ltb-false 32 (length s / 8) (or-neither odd many e .1))))
+      (bool-cases (odd || many))
+
+  -- bytes that are bad are out
+  bad-out : (odd || many) ≡ true → (odd || areOut (pausesIn s)) ≡ true
+  unfolding areOut
+  bad-out e =
+      ⊎-elim
+      (λ (o : odd ≡ true). rw o)
+      (λ (m : many ≡ true). rw (length-pauses s, m) (or-true odd))
+      (or-either odd many e)
+
+  pub lent-in : (odd || areOut (pausesIn s)) ≡ false → lentOf s ≡ pausesIn s
+  lent-in e = lent-good (not-true-false (odd || many) (λ t. true-not-false (bad-out t) e))
+
+  pub lent-out : areOut (lentOf s) ≡ (odd || areOut (pausesIn s))
+  lent-out =
+      ⊎-elim
+      (λ (e : (odd || many) ≡ true). rw (lent-bad e) (no-day-out ∙ sym (bad-out e)))
+      (λ (e : (odd || many) ≡ false). rw (lent-good e, or-neither odd many e .0))
+      (bool-cases (odd || many))

@@ -1,8 +1,8 @@
 -- "a list of pause records, each a first and a last day (last may be open), in any order, overlap allowed"
-use Prim.Native.Nat.{ℕ, zero, suc, _+_, _*_, _/_}
-use mathlib.Core.Bool.{Bool, _&&_, _||_}
+use Prim.Native.Nat.{ℕ, zero, suc, _+_, _*_, _/_, _%_}
+use mathlib.Core.Bool.{Bool, cond, not, _&&_, _||_}
 use mathlib.Core.List.{List, [], _∷_, _++_}
-use lib.Dec.{leb, ltb}
+use lib.Dec.{eqb, leb, ltb}
 use lib.ListN.{length, getD}
 use Rattle.below.specs.Below.{anyBelow}
 use Rattle.block.specs.Bytes.{wordAt}
@@ -28,12 +28,9 @@ isPaused xs d = anyBelow (length xs) (λ i. holds (getD xs i noDay) d)
 abbrev pub isOut : Pause → Bool
 isOut x = isNoSpan (x .first) (x .last)
 
--- 21: "more than 32 pauses, or a pause that ..", of n pauses, which begin with those of xs; and of a list
-unfoldable pub areOutOf : ℕ → List Pause → Bool
-areOutOf n xs = ltb 32 n || anyBelow n (λ i. isOut (getD xs i noDay))
-
-abbrev pub areOut : List Pause → Bool
-areOut xs = areOutOf (length xs) xs
+-- 21: "more than 32 pauses, or a pause that .."
+unfoldable pub areOut : List Pause → Bool
+areOut xs = ltb 32 (length xs) || anyBelow (length xs) (λ i. isOut (getD xs i noDay))
 
 -- the first n of a list's pauses, and as many that hold no day as are lacking
 unfoldable pub firstOf : ℕ → List Pause → List Pause
@@ -47,3 +44,8 @@ packedIn s (suc n) = packedIn s n ++ (record { first = wordAt s (n * 8); last = 
 
 abbrev pub pausesIn : List ℕ → List Pause
 pausesIn s = packedIn s (length s / 8)
+
+-- what the C call lends: its pauses; where the bytes are no whole number of pauses, or more than 32, a list that is out, so that
+-- 21 is given in its turn ("another length is 21")
+unfoldable pub lentOf : List ℕ → List Pause
+lentOf s = cond (not (eqb (length s % 8) 0) || ltb 32 (length s / 8)) (noDay ∷ []) (pausesIn s)

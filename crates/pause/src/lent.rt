@@ -1,13 +1,12 @@
 // Pauses as a lent slice of records. The borrow checker covers no function here: each is short, leaves its work to
 // functions on plain numbers and values, and has its proof by hand.
 use crate::Pause;
-use crate::Pauses;
-use crate::kept::with_pause;
 use crate::test::NO_DAY;
 use crate::test::or_held;
+use crate::test::or_out;
 ghost use mathlib.Core.Path.{_≡_};
-ghost use lib.ListN.{length, getD};
-ghost use Rattle.pause.specs.Pauses.{noDay, isPaused, firstOf};
+ghost use lib.ListN.{getD};
+ghost use Rattle.pause.specs.Pauses.{noDay, isPaused, areOut};
 
 // The pause at place `i` of the list; past the end, one that holds no day.
 pub fn pause_at(ps: &[Pause], i: usize) -> Pause
@@ -32,25 +31,17 @@ pub fn paused(ps: &[Pause], day: u32) -> bool
     hit
 }
 
-// The list by value.
-pub fn collect(ps: &[Pause]) -> Pauses
-    ensures { λ r. ⌜ (r .count ≡ length (now (ps .entry))) × (r .at ≡ firstOf 32 (now (ps .entry))) ⌝ }
+// 21: are there more than 32 pauses, or is one of them out? Its locals stand as those of `paused`, so that one walk proves both
+// loops.
+pub fn are_out(ps: &[Pause]) -> bool
+    ensures { λ r. ⌜ r ≡ areOut (now (ps .entry)) ⌝ }
 {
-    let mut at = [NO_DAY; 32];
+    let count = ps.len();
+    let mut out = 32 < count;
     let mut i = 0;
-    while i < 32 {
-        at = with_pause(at, i, pause_at(ps, i));
+    while i < ps.len() {
+        out = or_out(out, pause_at(ps, i));
         i = i + 1;
     }
-    Pauses {
-        count: ps.len(),
-        at,
-    }
-}
-
-// The day's test for whoever has the pauses by value: the array is lent as the list.
-pub fn paused_today(at: [Pause; 32], day: u32) -> bool
-    ensures { λ r. ⌜ r ≡ isPaused at day ⌝ }
-{
-    paused(&at, day)
+    out
 }

@@ -1,15 +1,13 @@
-// Pauses, by document 01: a list of records, each a first and a last day, in any order, overlap allowed. A caller lends
-// the list as a slice of records, or hands it over as the packed bytes of the C call; either way it can be kept by value.
-mod kept;
+// Pauses, by document 01: a list of records, each a first and a last day, in any order, overlap allowed. Each test is over a
+// lent slice of records. The C call's packed bytes are unpacked, so that it lends records too.
 mod lent;
+mod packed;
 mod test;
 
-pub use kept::are_out;
-pub use kept::unpack;
-pub use lent::collect;
+pub use lent::are_out;
 pub use lent::pause_at;
 pub use lent::paused;
-pub use lent::paused_today;
+pub use packed::unpack;
 pub use test::is_in;
 pub use test::is_out;
 
@@ -18,7 +16,7 @@ pub struct Pause {
     pub last: u32,
 }
 
-// A list's pauses by value: how many there are, and the first 32, with records that hold no day for those that lack.
+// What the C call lends: how many records there are, at most 32, and an array that begins with them.
 pub struct Pauses {
     pub count: usize,
     pub at: [Pause; 32],

@@ -32,3 +32,10 @@ pub fn is_out(p: Pause) -> bool
 {
     is_no_span(p.first, p.last)
 }
+
+// Was a pause out before, or is this one?
+pub(crate) fn or_out(out: bool, p: Pause) -> bool
+    ensures { λ r. ⌜ r ≡ (out || isOut p) ⌝ }
+{
+    out | is_out(p)
+}

@@ -27,7 +27,7 @@ use Rattle.split.specs.Parts.{partBytes}
 use Rattle.split.specs.Split.{tooSmall, lengthsOf, splitBy, splitOf, refusalIn, leftBy}
 use Rattle.split.specs.declared.Parted.{Parted}
 use Rattle.split.specs.declared.Parted.the-variants as split
-use Rattle.supply.specs.Need.{stopDay, hasStop}
+use Rattle.need.specs.Need.{stopDay, hasStop}
 use Rattle.supply.specs.Supply.{refusedBy as supplyRefusedBy, judgedOf, passedOn, packedSupplyOf, refusalIn as supplyRefusal}
 use Rattle.supply.specs.declared.Supply.{Supply}
 use Rattle.supply.specs.declared.Supply.the-variants as supply
@@ -62,19 +62,19 @@ far-cond true a b = a
 far-cond false a b = b
 
 module _ (p : List ℕ) (start pack choice : ℕ) (out : Bool) (ps : List Pause) where
-  far : Far (supplyRefusedBy start pack choice out (hasStop p) (stopDay p))
+  far : Far (supplyRefusedBy start pack choice out (hasStop choice p) (stopDay choice p))
   unfolding supplyRefusedBy
   far =
       far-cond (ltb 1000000000000 pack) (inr (omega arith))
       (far-cond out (inr (omega arith))
       (far-cond (not (isDay start)) (inr (omega arith))
       (far-cond (not (eqb choice 1 || eqb choice 2)) (inr (omega arith))
-      (far-cond (not (hasStop p) || ltb (stopDay p) start) (inr (omega arith)) (inl refl)))))
+      (far-cond (not (hasStop choice p) || ltb (stopDay choice p) start) (inr (omega arith)) (inl refl)))))
 
   judged-placed : Placed (alone 0) (supplyRefusal (judgedOf p start pack choice out ps))
   unfolding judgedOf
   judged-placed =
-      let k = supplyRefusedBy start pack choice out (hasStop p) (stopDay p) in
+      let k = supplyRefusedBy start pack choice out (hasStop choice p) (stopDay choice p) in
       ⊎-elim
       (λ (t : eqb k 0 ≡ true). rw t (placed-done (alone 0)))
       (λ (t : eqb k 0 ≡ false). rw t (inr (refl, far)))

@@ -34,7 +34,7 @@ use Rattle.split.proofs.Runs.{covered-ahead, covered-behind, run-between, betwe
 use Rattle.split.specs.Parts.{partOf, partBytes}
 use Rattle.supply.proofs.Covering.{supplied}
 use Rattle.supply.proofs.Refusing.{Unrefused, unrefused}
-use Rattle.supply.specs.Need.{needOn, stopDay, hasStop}
+use Rattle.need.specs.Need.{needOn, stopDay, hasStop}
 use Rattle.supply.specs.Supply.{lastingOf, refusedBy, judgedOf, passedOn}
 use Rattle.supply.specs.declared.Lasting.{Lasting}
 use Rattle.supply.specs.declared.Supply.the-variants.{Lasts, Refused}
@@ -70,8 +70,8 @@ not-both e = let z : _≡_ {A = ℕ} 0 1 = cc in omega arith
 -- `out` says that 21 is due
 pub record Answers (p : List ℕ) (start pack choice : ℕ) (out : Bool) (ps : List Pause) (x : Lasting) : Type 0 where
   pub accepted : (n : ℕ) × (verdictOf p ≡ Accepted n)
-  pub unrefused : Unrefused start pack choice out (hasStop p) (stopDay p)
-  pub lasting : lastingOf (needOn choice p ps) start (stopDay p) pack ≡ x
+  pub unrefused : Unrefused start pack choice out (hasStop choice p) (stopDay choice p)
+  pub lasting : lastingOf (needOn choice p ps) start (stopDay choice p) pack ≡ x
 
 pub answers : (p : List ℕ) (start pack choice : ℕ) (out : Bool) (ps : List Pause) (x : Lasting) →
     passedOn (verdictOf p) (judgedOf p start pack choice out ps) ≡ Lasts x → Answers p start pack choice out ps x
@@ -81,14 +81,14 @@ answers p start pack choice out ps x e = by-verdict (verdictOf p) refl
     by-verdict : (a : Answer) → verdictOf p ≡ a → Answers p start pack choice out ps x
     by-verdict (Broken r) v = absurd (not-both (rw v at e))
     by-verdict (Accepted n) v =
-        let number = refusedBy start pack choice out (hasStop p) (stopDay p) in
+        let number = refusedBy start pack choice out (hasStop choice p) (stopDay choice p) in
         let f = rw v at e in
         ⊎-elim
         (λ (t : eqb number 0 ≡ true).
         let g = rw t at f in
         record {
           accepted = (n, v);
-          unrefused = unrefused start pack choice out (hasStop p) (stopDay p) (eqb-true _ _ t);
+          unrefused = unrefused start pack choice out (hasStop choice p) (stopDay choice p) (eqb-true _ _ t);
           lasting = cc;
         })
         (λ (t : eqb number 0 ≡ false). absurd (not-both (rw t at f)))
@@ -99,7 +99,7 @@ last-covered : (p : List ℕ) (start pack choice : ℕ) (out : Bool) (ps : List 
 unfolding lastingOf
 last-covered p start pack choice out ps x e =
     let a = answers p start pack choice out ps x e in
-    let s = supplied (needOn choice p ps) start (stopDay p + 1 - start) pack in
+    let s = supplied (needOn choice p ps) start (stopDay choice p + 1 - start) pack in
     rw (← (a .lasting))
     (record {
       not-past = omega (arith, s .within, a .unrefused .stop-in);

@@ -22,7 +22,8 @@ use Rattle.split.specs.Split.{tooSmall, lengthsOf, splitOf, refusalIn, over}
 use Rattle.split.specs.declared.Parted.the-variants.{Parts}
 use Rattle.supply.proofs.Covering.{supplied}
 use Rattle.supply.proofs.Refusing.{stop-day-in}
-use Rattle.supply.specs.Need.{needOn, stopDay, covered}
+use Rattle.need.specs.Need.{needOn, stopDay}
+use Rattle.supply.specs.Covered.{covered}
 use Rattle.supply.specs.Supply.{lastingOf, judgedOf, passedOn}
 use Rattle.supply.specs.declared.Lasting.{Lasting}
 use Rattle.supply.specs.declared.Supply.the-variants.{Lasts}
@@ -68,10 +69,10 @@ covers : (p : List ℕ) (start pack choice : ℕ) (out : Bool) (ps : List Pause)
 unfolding lastingOf
 covers p start pack choice out ps x e =
     let a = answers p start pack choice out ps x e in
-    let k = stopDay p + 1 - start in
+    let k = stopDay choice p + 1 - start in
     let s = supplied (needOn choice p ps) start k pack in
     let n = covered (needOn choice p ps) start k pack in
-    let stop : start ≤ stopDay p = a .unrefused .stop-in in
+    let stop : start ≤ stopDay choice p = a .unrefused .stop-in in
     rw (← (a .lasting))
     (⊎-elim
     (λ (t : ltb n k ≡ true).
@@ -87,25 +88,25 @@ covers p start pack choice out ps x e =
     (λ (t : ltb n k ≡ false).
     let l : k ≤ n = ltb-false _ _ t in
     ⊎-elim
-    (λ (u : eqb (stopDay p) lastNumber ≡ true).
+    (λ (u : eqb (stopDay choice p) lastNumber ≡ true).
     rw (t, u)
     (record {
       sum = s .sum;
       needs-more = λ z. absurd (omega (arith, z));
       dosage-ends = λ z. absurd (omega (arith, z));
-      calendar-ends = λ _. (omega (arith, s .within), eqb-true (stopDay p) lastNumber u);
+      calendar-ends = λ _. (omega (arith, s .within), eqb-true (stopDay choice p) lastNumber u);
       one-of-these = (omega arith, omega arith);
     }))
-    (λ (u : eqb (stopDay p) lastNumber ≡ false).
+    (λ (u : eqb (stopDay choice p) lastNumber ≡ false).
     rw (t, u)
     (record {
       sum = s .sum;
       needs-more = λ z. absurd (omega (arith, z));
-      dosage-ends = λ _. (omega (arith, s .within), omega (arith, eqb-false (stopDay p) lastNumber u, stop-day-in p (accepted-only p (a .accepted .1))));
+      dosage-ends = λ _. (omega (arith, s .within), omega (arith, eqb-false (stopDay choice p) lastNumber u, stop-day-in choice p (accepted-only p (a .accepted .1))));
       calendar-ends = λ z. absurd (omega (arith, z));
       one-of-these = (omega arith, omega arith);
     }))
-    (bool-cases (eqb (stopDay p) lastNumber)))
+    (bool-cases (eqb (stopDay choice p) lastNumber)))
     (bool-cases (ltb n k)))
 
 pub demand3 : Demand3

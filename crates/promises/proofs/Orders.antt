@@ -24,7 +24,7 @@ use Rattle.register.specs.Sound.{sound}
 use Rattle.register.specs.Steps.{Call, Call.clear, Call.submit, Call.sign, Call.release, Call.drop, Call.state, isDone, unlessBroken, isStale, isFull, same, refusedBy, given, answered}
 use Rattle.split.specs.Split.{tooSmall, lengthsOf, splitBy, splitOf, refusalIn}
 use Rattle.split.specs.declared.Parted.the-variants.{Parts, Refused}
-use Rattle.supply.specs.Need.{stopDay, hasStop}
+use Rattle.need.specs.Need.{stopDay, hasStop}
 use Rattle.supply.specs.Supply.{refusedBy as supplyRefusedBy, judgedOf, passedOn, refusalIn as supplyRefusal}
 use Rattle.supply.specs.declared.Supply.{Supply}
 use Rattle.verdict.specs.Verdict.{planLimit, breaks, firstRule, verdictOf, refusalOf}
@@ -126,10 +126,10 @@ cond-number false x y = refl
 
 -- supply
 module _ (p : List ℕ) (start pack choice : ℕ) (out : Bool) (ps : List Pause) where
-  judged-number : supplyRefusal (judgedOf p start pack choice out ps) .number ≡ supplyRefusedBy start pack choice out (hasStop p) (stopDay p)
+  judged-number : supplyRefusal (judgedOf p start pack choice out ps) .number ≡ supplyRefusedBy start pack choice out (hasStop choice p) (stopDay choice p)
   unfolding judgedOf
   judged-number =
-      let k = supplyRefusedBy start pack choice out (hasStop p) (stopDay p) in
+      let k = supplyRefusedBy start pack choice out (hasStop choice p) (stopDay choice p) in
       ⊎-elim
       (λ (t : eqb k 0 ≡ true). rw t (sym (eqb-true _ _ t)))
       (λ (t : eqb k 0 ≡ false). rw t)
@@ -139,7 +139,7 @@ module _ (p : List ℕ) (start pack choice : ℕ) (out : Bool) (ps : List Pause)
   unfolding firstGiven chain supplyRefusedBy
   supply-first =
       supply-number (verdictOf p) (judgedOf p start pack choice out ps) (broken-number p) ∙
-      rw judged-number (sym (passed-on p (supplyRefusedBy start pack choice out (hasStop p) (stopDay p))))
+      rw judged-number (sym (passed-on p (supplyRefusedBy start pack choice out (hasStop choice p) (stopDay choice p))))
 
 -- split
 pub split-first : (p fixed need : List ℕ) → refusalIn (splitOf p fixed need) .number ≡ firstGiven (givenBySplit p fixed need) splitOrder

@@ -35,7 +35,7 @@ use Rattle.split.specs.Parts.{partBytes}
 use Rattle.split.specs.Split.{lengthsOf, splitOf, over, leftBy}
 use Rattle.split.specs.declared.Parted.the-variants.{Parts}
 use Rattle.supply.proofs.Covering.{Supplied, supplied-one, summed-le, summed-more}
-use Rattle.supply.specs.Need.{needOn, stopDay}
+use Rattle.need.specs.Need.{needOn, stopDay}
 use Rattle.supply.specs.Supply.{supplyOf, packedSupplyOf, lastingIn}
 use Rattle.supply.specs.declared.Lasting.{Lasting}
 use Rattle.verdict.specs.Verdict.{verdictOf, refusalOf}
@@ -87,9 +87,9 @@ one-date NoDay h = omega (arith, h 0)
 module _ (p : List ℕ) (start pack choice : ℕ) (ps : List Pause) where
   abbrev Stops : Lasting → Type 0
   Stops x =
-      ((x .reason ≡ 1) × (start + x .days ≤ stopDay p))
-      ⊎ (((x .reason ≡ 2) × (start + x .days ≡ stopDay p + 1) × (stopDay p < lastNumber))
-      ⊎ ((x .reason ≡ 3) × (start + x .days ≡ stopDay p + 1) × (stopDay p ≡ lastNumber)))
+      ((x .reason ≡ 1) × (start + x .days ≤ stopDay choice p))
+      ⊎ (((x .reason ≡ 2) × (start + x .days ≡ stopDay choice p + 1) × (stopDay choice p < lastNumber))
+      ⊎ ((x .reason ≡ 3) × (start + x .days ≡ stopDay choice p + 1) × (stopDay choice p ≡ lastNumber)))
 
   stops : {x : Lasting} → Covers p start pack choice ps x → Stops x
   stops {x} c =
@@ -104,10 +104,10 @@ module _ (p : List ℕ) (start pack choice : ℕ) (ps : List Pause) where
       (same-or-not (x .reason) 2))
       (same-or-not (x .reason) 1)
 
-  is-supplied : {x : Lasting} → Covers p start pack choice ps x → Supplied (needOn choice p ps) start (stopDay p + 1 - start) pack (x .days) (x .rest)
+  is-supplied : {x : Lasting} → Covers p start pack choice ps x → Supplied (needOn choice p ps) start (stopDay choice p + 1 - start) pack (x .days) (x .rest)
   is-supplied {x} c =
       let need = needOn choice p ps in
-      let to-the-end : start + x .days ≡ stopDay p + 1 → Supplied need start (stopDay p + 1 - start) pack (x .days) (x .rest) =
+      let to-the-end : start + x .days ≡ stopDay choice p + 1 → Supplied need start (stopDay choice p + 1 - start) pack (x .days) (x .rest) =
       λ e. record { within = omega arith; sum = c .sum; stopped = inr (omega arith); greatest = λ n h g. omega arith } in
       ⊎-elim
       (λ s.

@@ -12,11 +12,12 @@ use Rattle.block.specs.Sums.{sealed}
 use Rattle.day.specs.Days.{openMark}
 use Rattle.doses.specs.Doses.{positionOf, dosesOfPeriod, dosesOn}
 use Rattle.layout.specs.Layout.{Written, filled, headBytes, periodStart, periodBlock, bodyOf, laidOut}
-use Rattle.pause.specs.Pauses.{isPaused, areOutOf, areOut, packedIn, pausesIn}
+use Rattle.pause.specs.Pauses.{isPaused, areOut, packedIn, pausesIn}
 use Rattle.pause.specs.declared.Pause.{Pause}
 use Rattle.plan.specs.Fields.{doseOf, doseBytes}
 use Rattle.plan.specs.Periods.{blockAt, moreOf, dosesOf, doseIn, hasUnmarked, hasMarked, classOf}
-use Rattle.supply.specs.Need.{needOn, stopDay, hasStop, covered}
+use Rattle.need.specs.Need.{choiceOf, dueOn, needOn, stopDayBy, hasStopBy}
+use Rattle.supply.specs.Covered.{covered}
 use Rattle.supply.specs.Supply.{lastingOf, refusedBy, judgedOf}
 use Rattle.supply.specs.declared.Lasting.{Lasting}
 use Rattle.supply.specs.declared.Supply.the-variants.{Lasts}
@@ -50,7 +51,7 @@ record All : Type 0 where
   p13 : Computed twoDaily 500 pauses13 bytes13 (record { days = 5; last = 8081; rest = 100; reason = 1 })
 
 all : All
-unfolding head unmarked daily revision oneDaily twoDaily filled headBytes periodStart doseBytes periodBlock bodyOf laidOut numberAt bytesOf put sealed listBelow joinOver firstFrom firstBelow anyBelow sumBelow largestBelow doseOf blockAt moreOf dosesOf doseIn hasUnmarked hasMarked classOf pickBelow joinBelow sumOver positionOf dosesOfPeriod dosesOn isPaused packedIn areOutOf judgedOf refusedBy lastingOf needOn stopDay hasStop covered
+unfolding head unmarked daily revision oneDaily twoDaily filled headBytes periodStart doseBytes periodBlock bodyOf laidOut numberAt bytesOf put sealed listBelow joinOver firstFrom firstBelow anyBelow sumBelow largestBelow doseOf blockAt moreOf dosesOf doseIn hasUnmarked hasMarked classOf pickBelow joinBelow sumOver positionOf dosesOfPeriod dosesOn isPaused packedIn areOut judgedOf refusedBy lastingOf needOn dueOn choiceOf stopDayBy hasStopBy covered
 all =
     record {
       p10 = record { low = refl; upper = refl; packed-low = refl; packed-upper = refl };

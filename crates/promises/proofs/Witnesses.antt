@@ -21,10 +21,11 @@ use Rattle.register.specs.Reached.{seen, Reached, Reached.called}
 use Rattle.register.specs.Steps.{Call.clear, Call.submit, Call.sign, Call.release, after}
 use Rattle.split.specs.Parts.{isOfPart, nextDosed, hasRun}
 use Rattle.split.specs.Split.{splitOf, refusalIn}
-use Rattle.supply.specs.Need.{needOn, stopDay, hasStop, covered}
+use Rattle.need.specs.Need.{choiceOf, dueOn, needOn, stopDayBy, hasStopBy}
+use Rattle.supply.specs.Covered.{covered}
 use Rattle.supply.specs.Supply.{lastingOf, refusedBy, judgedOf}
 use Rattle.supply.specs.declared.Supply.the-variants.{Lasts}
-use Rattle.pause.specs.Pauses.{isPaused, areOutOf, areOut, packedIn, pausesIn}
+use Rattle.pause.specs.Pauses.{isPaused, areOut, packedIn, pausesIn}
 use Rattle.verdict.specs.Coverage.{isMember}
 use Rattle.verdict.specs.Verdict.{refusalOf}
 use Rattle.promises.specs.Cases.{twoDaily, oneSlot, output, signedPlan, A, B}
@@ -47,7 +48,7 @@ record Computed : Type 0 where
   packed-calendar : judgedOf (plan twoDaily) 73047 500 2 (areOut (pausesIn [])) (pausesIn []) ≡ Lasts (record { days = 2; last = 73048; rest = 100; reason = 3 })
 
 computed : Computed
-unfolding head unmarked marked daily fixed need mixed empty revision twoDaily signedPlan filled headBytes periodStart doseBytes periodBlock bodyOf laidOut numberAt bytesOf put sealed listBelow joinOver firstFrom firstBelow anyBelow sumBelow largestBelow doseOf blockAt moreOf dosesOf doseIn hasUnmarked hasMarked classOf pickBelow joinBelow sumOver positionOf dosesOfPeriod dosesOn isPaused packedIn areOutOf judgedOf refusedBy lastingOf needOn stopDay hasStop covered keep isMember nextDosed
+unfolding head unmarked marked daily fixed need mixed empty revision twoDaily signedPlan filled headBytes periodStart doseBytes periodBlock bodyOf laidOut numberAt bytesOf put sealed listBelow joinOver firstFrom firstBelow anyBelow sumBelow largestBelow doseOf blockAt moreOf dosesOf doseIn hasUnmarked hasMarked classOf pickBelow joinBelow sumOver positionOf dosesOfPeriod dosesOn isPaused packedIn areOut judgedOf refusedBy lastingOf needOn dueOn choiceOf stopDayBy hasStopBy covered keep isMember nextDosed
 computed = record { run = refl; long = refl; fixed-doses = refl; need-doses = refl; calendar = refl; packed-calendar = refl }
 
 -- the split of the plan with both marks

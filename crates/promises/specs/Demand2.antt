@@ -20,7 +20,8 @@ use Rattle.register.specs.History.{Event, latest, signatures}
 use Rattle.register.specs.Reached.{IsBytes, Reached}
 use Rattle.register.specs.Steps.{Call.state, done, answered, nothingBut}
 use Rattle.split.specs.Parts.{groupOf, isDosedIn, runFirst, runLast, hasRun, partOf, partBytes}
-use Rattle.supply.specs.Need.{needOn, stopDay, summed}
+use Rattle.need.specs.Need.{needOn, stopDay}
+use Rattle.supply.specs.Covered.{summed}
 use Rattle.supply.specs.Supply.{supplyOf, packedSupplyOf}
 use Rattle.supply.specs.declared.Lasting.{Lasting}
 use Rattle.supply.specs.declared.Supply.the-variants.{Lasts}
@@ -68,9 +69,9 @@ pub record Lists (p : List ℕ) (part : Bool) : Type 0 where
 
 -- "Covered days run from the start to the greatest day, not past the stop day, whose summed need is at most the pack amount."
 pub record LastCovered (p : List ℕ) (start pack choice : ℕ) (ps : List Pause) (x : Lasting) : Type 0 where
-  pub not-past : start + x .days ≤ stopDay p + 1
+  pub not-past : start + x .days ≤ stopDay choice p + 1
   pub at-most : summed (needOn choice p ps) start (x .days) ≤ pack
-  pub greatest : (n : ℕ) → start + n ≤ stopDay p + 1 → summed (needOn choice p ps) start n ≤ pack → n ≤ x .days
+  pub greatest : (n : ℕ) → start + n ≤ stopDay choice p + 1 → summed (needOn choice p ps) start n ≤ pack → n ≤ x .days
   -- "last covered day (open mark if none)"
   pub last-is : x .last ≡ cond (eqb (x .days) 0) openMark (start + x .days - 1)
 

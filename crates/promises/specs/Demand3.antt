@@ -19,7 +19,7 @@ use Rattle.register.specs.Promise.{SlotPromise}
 use Rattle.register.specs.Reached.{IsBytes}
 use Rattle.split.specs.Parts.{isOfPart, partBytes}
 use Rattle.split.specs.Split.{splitOf, refusalIn, lengthsIn, leftBy}
-use Rattle.supply.specs.Need.{needOn, stopDay}
+use Rattle.need.specs.Need.{needOn, stopDay}
 use Rattle.supply.specs.Supply.{supplyOf, packedSupplyOf}
 use Rattle.supply.specs.declared.Lasting.{Lasting}
 use Rattle.supply.specs.declared.Supply.the-variants.{Lasts}
@@ -45,11 +45,11 @@ pub record Covers (p : List ℕ) (start pack choice : ℕ) (ps : List Pause) (x 
   -- "the pack equals the fixed doses of all covered days at the chosen amount, paused days counting nothing, plus the rest"
   pub sum : pack ≡ sumBelow (x .days) (λ i. needOn choice p ps (start + i)) + x .rest
   -- "and the next day needs more than the rest": reason 1
-  pub needs-more : x .reason ≡ 1 → (start + x .days ≤ stopDay p) × (x .rest < needOn choice p ps (start + x .days))
+  pub needs-more : x .reason ≡ 1 → (start + x .days ≤ stopDay choice p) × (x .rest < needOn choice p ps (start + x .days))
   -- "or the dosage .. ends there": reason 2, the covered days end with the last day of any fixed or mixed period
-  pub dosage-ends : x .reason ≡ 2 → (start + x .days ≡ stopDay p + 1) × (stopDay p < lastNumber)
+  pub dosage-ends : x .reason ≡ 2 → (start + x .days ≡ stopDay choice p + 1) × (stopDay choice p < lastNumber)
   -- "or the calendar ends there": reason 3, that day is the calendar's last
-  pub calendar-ends : x .reason ≡ 3 → (start + x .days ≡ stopDay p + 1) × (stopDay p ≡ lastNumber)
+  pub calendar-ends : x .reason ≡ 3 → (start + x .days ≡ stopDay choice p + 1) × (stopDay choice p ≡ lastNumber)
   pub one-of-these : (1 ≤ x .reason) × (x .reason ≤ 3)
 
 -- "Wherever supply isn't refused": with a lent list of pauses

@@ -35,7 +35,7 @@ pub record Once : Type 0 where
   pub judged : (rule class : ℕ) (x y : Judged) → (x .rule ≡ rule) × (x .class ≡ class) → (y .rule ≡ rule) × (y .class ≡ class) → x ≡ y
   -- verdict: `verdict_with_classes` says answer and classes
   pub classes : (a : Answer) (cs : List ℕ) (x y : Classes) → (x .answer ≡ a) × (x .classes ≡ cs) → (y .answer ≡ a) × (y .classes ≡ cs) → x ≡ y
-  -- pause: `unpack` and `collect` say count and pauses
+  -- pause: `unpack` says count and pauses
   pub pauses : (n : ℕ) (at : List Pause) (x y : Pauses) → (x .count ≡ n) × (x .at ≡ at) → (y .count ≡ n) × (y .at ≡ at) → x ≡ y
   -- register: `clear`, `submit`, `sign` and `drop_plan`; `release`; `state_of`
   pub calls : (r : List ℕ) (c : Call) (x y : Refusal) (s t : List ℕ) → Called r c (nothingBut x) s → Called r c (nothingBut y) t → (x ≡ y) × (s ≡ t)

@@ -14,7 +14,7 @@ use Rattle.register.specs.Sound.{sound}
 use Rattle.register.specs.Steps.{Call, Call.clear, Call.submit, Call.sign, Call.release, Call.drop, Call.state, isStale, isFull, same}
 use Rattle.screen.specs.Calls.{tooShort}
 use Rattle.split.specs.Split.{tooSmall}
-use Rattle.supply.specs.Need.{stopDay, hasStop}
+use Rattle.need.specs.Need.{stopDay, hasStop}
 use Rattle.verdict.specs.Verdict.{planLimit, breaks}
 
 -- the first number of an order that is given, or 0 where none is
@@ -40,7 +40,7 @@ givenBySupply p start pack choice pausesOut k =
     (cond (eqb k 21) pausesOut
     (cond (eqb k 22) (not (isDay start))
     (cond (eqb k 23) (not (eqb choice 1 || eqb choice 2))
-    (cond (eqb k 24) (not (hasStop p) || ltb (stopDay p) start)
+    (cond (eqb k 24) (not (hasStop choice p) || ltb (stopDay choice p) start)
     (isBroken p k)))))
 
 -- split: "else 25, after the verdict"

@@ -12,7 +12,7 @@ use Rattle.below.proofs.Search.{NoneBelow, none-zero, none-more, first-is, firs
 use Rattle.below.proofs.Tests.{le-or-lt}
 use Rattle.below.proofs.Total.{sum-zero, sum-more}
 use Rattle.day.specs.Days.{lastNumber, openMark}
-use Rattle.supply.specs.Need.{summed, covered}
+use Rattle.supply.specs.Covered.{summed, covered}
 use Rattle.supply.specs.Supply.{lastingOf}
 
 module _ (need : ℕ → ℕ) (start : ℕ) where

@@ -3,8 +3,9 @@ pub mod Covering
 pub mod Range
 pub mod Steadying
 pub mod Placing
-pub mod Stretch
-pub mod Stopping
+pub mod Standing
 pub mod Accepted
 pub mod Refusing
-pub mod Kept
+pub mod Beginning
+pub mod Walking
+pub mod Unpacked

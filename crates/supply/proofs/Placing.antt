@@ -1,6 +1,5 @@
--- Where the doses of a position begin, by where those of the position ahead end; and the list of what each position needs.
--- Assumes nothing.
-use Prim.Native.Nat.{ℕ, _+_, _-_, _%_, _≤_, _<_, min}
+-- Where the doses of a position begin, by where those of the position ahead end, and the positions of days in a row. Assumes nothing.
+use Prim.Native.Nat.{ℕ, _+_, _-_, _%_, _≤_, _<_}
 use mathlib.Core.Bool.{true, false}
 use mathlib.Core.List.{List}
 use mathlib.Core.Logic.{⊎-elim}
@@ -8,15 +7,11 @@ use mathlib.Core.Path.{_≡_, sym, ap, _∙_}
 use native.Mathlib.Nat.{mod-lt, mod-eq-of-lt, mod-self, mod-le, mod-add-mod}
 use native.Mathlib.Omega.{arith}
 use lib.Dec.{eqb}
-use lib.ListN.{getD, set, replicate, length-replicate, length-set}
-use lib.Seq.{getD-set-same, getD-set-other}
-use borrow.Author.Count.{below-more}
 use borrow.Author.Tests.{eqb-true, eqb-false, ne-eqb}
 use Rattle.below.proofs.Tests.{bool-cases}
 use Rattle.doses.specs.Doses.{positionOf}
 use Rattle.plan.specs.Fields.{intervalOf, firstOf, headerOf}
-use Rattle.supply.specs.code.Capped.{cap, From, lowestAt, needAt, Placed, positionBehind, Listed}
-use Rattle.supply.specs.declared.today.Today.{Today}
+use Rattle.supply.specs.code.Standing.{From, lowestAt, positionBehind, doseFrom}
 
 lowest-none : (x : ℕ) → x ≤ 1 → lowestAt x ≡ 0
 lowest-none x l =
@@ -32,32 +27,15 @@ module _ (p : List ℕ) (b : ℕ) {n x : ℕ} where
       rw (lowest-none x l)
       (record { within = omega arith; before = λ i h. absurd (omega arith); behind = λ i h m. omega arith })
 
--- those of the next position stand behind
-pub from-behind : {p : List ℕ} {b n x j : ℕ} → 0 < x → From p b n (x + 1) j → From p b n (lowestAt (x + 1)) j
-from-behind {x = x} l f = rw (ne-eqb (x + 1) 1 (λ z. omega arith)) f
-
-pub from-next : {p : List ℕ} {t : Today} (x : ℕ) → Placed p t → 1 < x → x - 1 ≡ t .position → From p (t .b) (t .doses) (lowestAt x) (t .behind)
-from-next {p} {t} x w l e =
-    let q : t .position + 1 ≡ x = omega arith in
-    rw q at (from-behind {x = t .position} (omega arith) (w .behind))
-
--- the list of what each position needs
-pub listed-none : (choice : ℕ) (p : List ℕ) (b : ℕ) → Listed choice p b 1 (replicate 256 0)
-listed-none choice p b = record { long = length-replicate {A = ℕ} 256 0; entry = λ x l h. absurd (omega arith) }
-
-pub listed-more : {choice : ℕ} {p : List ℕ} {b x y : ℕ} {needs : List ℕ} → Listed choice p b x needs → x < 256 →
-    y ≡ min cap (needAt choice p b x) → Listed choice p b (x + 1) (set needs x y)
-listed-more {choice} {p} {b} {x} {y} {needs} s l e =
-    record {
-      long = length-set needs x y ∙ s .long;
-      entry =
-          below-more (λ (k : ℕ). 0 < k → getD (set needs x y) k 0 ≡ min cap (needAt choice p b k)) x
-          (λ k m h. rw (getD-set-other needs x k y 0 (λ (z : k ≡ x). omega arith)) (s .entry k m h))
-          (λ h. getD-set-same needs x y 0 (rw (s .long) l) ∙ e);
-    }
-
-pub listed-all : {choice : ℕ} {p : List ℕ} {b n x : ℕ} {needs : List ℕ} → Listed choice p b x needs → n ≤ x → Listed choice p b n needs
-listed-all s l = record { long = s .long; entry = λ k m h. s .entry k (omega arith) h }
+-- so the doses of the position behind are where those of this one end, or the first
+pub from-next : {p : List ℕ} {b n j x : ℕ} (k : ℕ) → From p b n (x + 1) j → 0 < x → From p b n (lowestAt (positionBehind k x)) (doseFrom (positionBehind k x) j)
+from-next {p} {b} {n} {j} {x} k f l =
+    ⊎-elim
+    (λ (t : eqb x k ≡ true). rw t (from-first p b {n = n} {x = 1} (omega arith)))
+    (λ (t : eqb x k ≡ false).
+    let e : eqb (x + 1) 1 ≡ false = ne-eqb (x + 1) 1 (λ z. omega arith) in
+    rw (t, e) f)
+    (bool-cases (eqb x k))
 
 -- no day has position 0
 pub position-some : (r : List ℕ) (d : ℕ) → 0 < positionOf (headerOf r) d

@@ -1,6 +1,6 @@
--- The doses of a position stand together where day numbers do not fall: what a period needs at a position is the sum over them,
--- kept up to the cap. Assumes nothing.
-use Prim.Native.Nat.{ℕ, zero, suc, _+_, _-_, _≤_, _<_, min}
+-- The doses of a position stand together where day numbers do not fall: what a period needs at a position is the sum over them. Assumes
+-- nothing.
+use Prim.Native.Nat.{ℕ, zero, suc, _+_, _-_, _*_, _≤_, _<_}
 use mathlib.Core.Bool.{true, false, cond}
 use mathlib.Core.List.{List}
 use mathlib.Core.Logic.{⊎-elim}
@@ -11,15 +11,15 @@ use borrow.Author.Count.{below-more}
 use borrow.Author.Tests.{eq-eqb, ne-eqb, eqb-true, eqb-false}
 use Rattle.plan.specs.Fields.{headerOf}
 use Rattle.below.proofs.Tests.{bool-cases, and-false}
-use Rattle.below.proofs.Total.{sum-zero, sum-more}
+use Rattle.below.proofs.Total.{sum-zero, sum-more, sum-le}
 use Rattle.below.specs.Below.{sumBelow}
 use Rattle.below.proofs.Lists.{sum-pick}
 use Rattle.doses.specs.Doses.{positionOf, applies, dosesOfPeriod}
+use Rattle.need.specs.Need.{chosen}
 use Rattle.below.specs.Lists.{sumOver}
 use Rattle.plan.specs.Periods.{blockAt, dosesOf, doseIn}
 use Rattle.plan.specs.declared.Dose.{Dose}
-use Rattle.supply.specs.code.Capped.{cap, From, lowestAt, needAt}
-use Rattle.supply.specs.Need.{chosen}
+use Rattle.supply.specs.code.Standing.{Small, From, lowestAt, needAt}
 
 -- terms that are 0 add nothing
 pub sum-flat : (f : ℕ → ℕ) (m n : ℕ) → ((k : ℕ) → m ≤ k → k < m + n → f k ≡ 0) → sumBelow (m + n) f ≡ sumBelow m f
@@ -67,11 +67,23 @@ module _ (choice : ℕ) (p : List ℕ) (b x : ℕ) where
   abbrev term : ℕ → ℕ
   term j = cond (applies x (doseIn p b j)) (chosen choice (doseIn p b j)) 0
 
+  term-small : Small choice p b → (k : ℕ) → k < dosesOf p b → term k ≤ 9999999999
+  term-small h k l =
+      ⊎-elim
+      (λ (t : applies x (doseIn p b k) ≡ true). rw t (h .each k l))
+      (λ (t : applies x (doseIn p b k) ≡ false). rw t (omega arith))
+      (bool-cases (applies x (doseIn p b k)))
+
+  -- what a position needs is small
+  pub need-small : Small choice p b → needAt choice p b x ≤ 12799999998720
+  unfolding needAt
+  need-small h = omega (arith, h .few, sum-le term 9999999999 (dosesOf p b) (term-small h))
+
   -- the sum over the doses that count, when it stands at dose j with s
   pub record Sums (n j s : ℕ) : Type 0 where
     pub all : n ≡ dosesOf p b
     pub within : j ≤ n
-    pub sum : s ≡ min cap (sumBelow j term)
+    pub sum : s ≡ sumBelow j term
     pub before : (i : ℕ) → i < j → doseIn p b i .day < x + 1
     pub behind : (i : ℕ) → j ≤ i → i < n → lowestAt x ≤ doseIn p b i .day
 
@@ -89,10 +101,11 @@ module _ (choice : ℕ) (p : List ℕ) (b x : ℕ) where
       }
 
   module _ {n j s : ℕ} (w : Sums n j s) where
-    pub sums-capped : s ≤ cap
-    sums-capped = omega (arith, w .sum)
+    -- the sum so far, and with a dose more, is small
+    pub sums-small : Small choice p b → s ≤ 12799999998720
+    sums-small h = omega (arith, w .sum, w .within, w .all, h .few, sum-le term 9999999999 j (λ k l. term-small h k (omega (arith, w .within, w .all))))
 
-    pub sums-go-on : {t : ℕ} → j < n → doseIn p b j .day ≤ x → t ≡ min cap (s + chosen choice (doseIn p b j)) → Sums n (j + 1) t
+    pub sums-go-on : {t : ℕ} → j < n → doseIn p b j .day ≤ x → t ≡ s + chosen choice (doseIn p b j) → Sums n (j + 1) t
     sums-go-on l h e =
         let q : term j ≡ chosen choice (doseIn p b j) = rw (does-count x (doseIn p b j) (w .behind j (omega arith) l) h) in
         record {
@@ -105,7 +118,7 @@ module _ (choice : ℕ) (p : List ℕ) (b x : ℕ) where
 
     -- the doses behind have passed the position
     pub sums-stop : ((i : ℕ) → j ≤ i → i < n → x < doseIn p b i .day) →
-        (s ≡ min cap (needAt choice p b x)) × From p b n (x + 1) j
+        (s ≡ needAt choice p b x) × From p b n (x + 1) j
     unfolding needAt
     sums-stop past =
         let e : j + (n - j) ≡ dosesOf p b = omega (arith, w .all, w .within) in

@@ -11,11 +11,12 @@ use Rattle.below.proofs.Tests.{bool-cases, and-both, or-neither}
 use Rattle.below.proofs.Total.{largest-least}
 use Rattle.day.specs.Days.{isDay, lastNumber}
 use Rattle.form.proofs.Formed.{dated}
-use Rattle.plan.specs.Periods.{blocksOf}
+use Rattle.need.proofs.Found.{lastIf}
+use Rattle.need.specs.Need.{stopsAt, stopDayBy, stopDay}
+use Rattle.plan.specs.Fields.{lastOf}
+use Rattle.plan.specs.Periods.{blocksOf, blockAt, classOf}
 use Rattle.verdict.proofs.Exactly.{NoRuleBroken, formed-of}
-use Rattle.supply.specs.Need.{isSupplied, stopDay}
 use Rattle.supply.specs.Supply.{refusedBy}
-use Rattle.supply.proofs.Stopping.{lastIf}
 
 -- a chain of refusals that ends in 0 passed the first
 passed : (t : Bool) (k x : ℕ) → 0 < k → cond t k x ≡ 0 → (t ≡ false) × (x ≡ 0)
@@ -49,12 +50,13 @@ unrefused start pack choice pausesOut anyStop stop e =
     }
 
 -- the stop day is a day of the calendar
-pub stop-day-in : (p : List ℕ) → NoRuleBroken p → stopDay p ≤ lastNumber
-unfolding stopDay
-stop-day-in p n =
-    largest-least (lastIf p 0) lastNumber (blocksOf p)
+pub stop-day-in : (choice : ℕ) (p : List ℕ) → NoRuleBroken p → stopDay choice p ≤ lastNumber
+unfolding stopDayBy
+stop-day-in choice p n =
+    let stops = stopsAt choice (classOf p) p in
+    largest-least (lastIf stops (λ b. lastOf (blockAt p b))) lastNumber (blocksOf p)
     (λ b l.
     ⊎-elim
-    (λ (t : isSupplied p b ≡ true). rw t (dated (formed-of p n) b l (and-both _ _ t .0) .1))
-    (λ (t : isSupplied p b ≡ false). rw t (omega arith))
-    (bool-cases (isSupplied p b)))
+    (λ (t : stops b ≡ true). rw t (dated (formed-of p n) b l (and-both _ _ t .0) .1))
+    (λ (t : stops b ≡ false). rw t (omega arith))
+    (bool-cases (stops b)))

@@ -2,23 +2,16 @@
 use Prim.Native.Nat.{ℕ, _+_, _-_, _≤_, _<_, min}
 use mathlib.Core.Bool.{Bool, _&&_}
 use mathlib.Core.List.{List}
-use mathlib.Core.Path.{_≡_, sym, ap, _∙_}
+use mathlib.Core.Path.{_≡_, ap}
 use native.Mathlib.Omega.{arith}
 use lib.Dec.{leb}
-use lib.ListN.{length, getD}
 use borrow.Author.Count.{below-more}
 use borrow.Author.Tests.{le-leb, lt-leb}
-use Rattle.below.proofs.Search.{any-same}
 use Rattle.below.proofs.Tests.{and-false}
-use Rattle.day.specs.Days.{closedDay}
 use Rattle.doses.specs.Doses.{covers}
-use Rattle.pause.proofs.Lists.{at-any}
-use Rattle.pause.specs.Pauses.{noDay, holds, isPaused}
-use Rattle.pause.specs.declared.Pause.{Pause}
 use Rattle.plan.specs.Fields.{firstOf, lastOf}
 use Rattle.plan.specs.Periods.{blockAt, isPeriod}
-use Rattle.supply.specs.code.Capped.{Steady, Told}
-use Rattle.supply.specs.declared.until.Spell.{Spell}
+use Rattle.supply.specs.code.Standing.{Steady}
 
 -- days ahead of a stretch of days, in it, and past it
 module _ (first last day : ℕ) where
@@ -56,29 +49,3 @@ module _ (test : ℕ → ℕ → Bool) {day : ℕ} where
             (λ k l e a b. s .each k l e a (omega arith))
             (λ e a b. h .1 e a (omega arith));
       }
-
--- a pause, by its first and its closed last day
-pub pause-steady : (x : Pause) {day last u : ℕ} → last ≡ closedDay (x .last) →
-    (day ≤ u) × Steady (λ e. leb (x .first) e && leb e last) day u → (day ≤ u) × Steady (holds x) day u
-pause-steady x l s = rw (← l) s
-
--- the tests of a list's pauses, at its places
-abbrev pub heldAt : List Pause → ℕ → ℕ → Bool
-heldAt xs k e = holds (getD xs k noDay) e
-
--- the pause at a place that the list has, whatever stands past its end
-pub at-steady : (xs : List Pause) (i : ℕ) (x : Pause) {day u : ℕ} → i < length xs →
-    (day ≤ u) × Steady (holds (getD xs i x)) day u → (day ≤ u) × Steady (heldAt xs i) day u
-at-steady xs i x {day} {u} l s = rw (at-any xs i noDay x l) s
-
--- while each pause has the days or has them not, all are paused or none is
-pub paused-steady : (xs : List Pause) {day n u : ℕ} → Steadies (heldAt xs) day n u → length xs ≤ n → (day ≤ u) × Steady (isPaused xs) day u
-unfolding isPaused
-paused-steady xs {day} {n} {u} s l =
-    (s .reached, λ e h m. any-same (λ k. heldAt xs k e) (λ k. heldAt xs k day) (length xs) (λ k q. s .each k (omega arith) e h m))
-
--- what is told of a day holds on the next
-pub told-on : (xs : List Pause) {d : ℕ} {s : Spell} → Told xs d s → d + 1 ≤ s .until → Told xs (d + 1) s
-told-on xs {d} {s} t l =
-    let q = t .steady (d + 1) (omega arith) l in
-    record { paused-is = t .paused-is ∙ sym q; steady = λ e h m. t .steady e (omega arith) m ∙ sym q }

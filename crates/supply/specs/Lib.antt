@@ -1,4 +1,4 @@
 -- Document 01, "Supply".
-pub mod Need
+pub mod Covered
 pub mod Supply
 pub mod code

@@ -7,6 +7,7 @@ use lib.ListN.{length}
 use Rattle.day.specs.Days.{lastNumber, openMark, isDay}
 use Rattle.refusal.specs.declared.Refusal.{Refusal}
 use Rattle.refusal.specs.Refusals.{alone}
+use Rattle.need.specs.Need.{needOn, stopDay, hasStop}
 use Rattle.pause.specs.declared.Pause.{Pause}
 use Rattle.pause.specs.Pauses.{areOut, pausesIn}
 use Rattle.verdict.specs.declared.Answer.{Answer}
@@ -15,7 +16,7 @@ use Rattle.verdict.specs.Verdict.{verdictOf}
 use Rattle.supply.specs.declared.Lasting.{Lasting}
 use Rattle.supply.specs.declared.Supply.{Supply}
 use Rattle.supply.specs.declared.Supply.the-variants.{Lasts, Refused}
-use Rattle.supply.specs.Need.{needOn, stopDay, hasStop, summed, covered}
+use Rattle.supply.specs.Covered.{summed, covered}
 
 -- "days covered (0 to 73,049), last covered day (open mark if none), rest, and why it stopped: 1 the next day needs more than
 -- the rest, 2 stop day reached, 3 stop day reached and it is 73,048"
@@ -44,8 +45,8 @@ refusedBy start pack choice pausesOut anyStop stop =
 -- what supply answers once the plan is accepted
 unfoldable pub judgedOf : List ℕ → ℕ → ℕ → ℕ → Bool → List Pause → Supply
 judgedOf p start pack choice pausesOut ps =
-    let number = refusedBy start pack choice pausesOut (hasStop p) (stopDay p) in
-    cond (eqb number 0) (Lasts (lastingOf (needOn choice p ps) start (stopDay p) pack)) (Refused (alone number))
+    let number = refusedBy start pack choice pausesOut (hasStop choice p) (stopDay choice p) in
+    cond (eqb number 0) (Lasts (lastingOf (needOn choice p ps) start (stopDay choice p) pack)) (Refused (alone number))
 
 -- document 01's number and values for either case: "Refused: 0 days, open mark, rest 0, reason 0."
 abbrev pub refusalIn : Supply → Refusal

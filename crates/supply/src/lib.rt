@@ -1,15 +1,15 @@
 // Supply, by document 01: how far a pack lasts.
-mod entry;
-mod judge;
+mod begin;
 mod lent;
-mod need;
-mod next;
+mod packed;
+mod place;
+mod position;
 mod today;
 mod until;
 mod walk;
 
-pub use entry::supply_packed;
 pub use lent::supply_of;
+pub use packed::supply_packed;
 use refusal::Refusal;
 
 // How far the pack lasts: days covered, the last of them, what is left, and why it ends.

@@ -1,51 +1,45 @@
-// The walk over the days, and the stop day.
+// The walk over the days.
 use crate::Lasting;
-use crate::next::needs_of;
-use crate::next::next_day;
-use crate::today::is_supplied;
+use crate::Supply;
+use crate::today::Today;
+use crate::today::next_day;
 use crate::today::on_day;
-use crate::until::spell_on;
 use day::Day;
-use pause::Pause;
-use plan::block_of;
-use plan::last_of;
+use refusal::Refusal;
 ghost use mathlib.Core.Path.{_≡_};
-ghost use Prim.Native.Nat.{_+_, _-_, _≤_, _<_, max};
-ghost use mathlib.Core.Bool.{cond};
+ghost use Prim.Native.Nat.{_+_, _-_, _≤_, _<_};
+ghost use mathlib.Core.Bool.{true, false, cond};
 ghost use lib.Dec.{eqb};
 ghost use Rattle.day.specs.Days.{lastNumber, openMark};
-ghost use Rattle.supply.specs.Need.{needOn, stopDay, hasStop};
-ghost use Rattle.supply.specs.Supply.{lastingOf};
-ghost use Rattle.supply.specs.code.Capped.{cap, Orderly};
+ghost use Rattle.need.specs.Need.{dueOn};
+ghost use Rattle.supply.specs.code.Standing.{Orderly, Known};
+ghost use Rattle.supply.specs.code.Walking.{Going, Stepped, endedOf};
 
-// The stop day, if there is one.
-pub(crate) struct Stop {
-    pub any: bool,
+// The walk stands on `day`, with a rest, and goes on as long as `going`. `reason` says why it ended; where supply is refused it never
+// goes.
+pub(crate) struct Walk {
+    pub refused: bool,
+    pub refusal: Refusal,
+    pub going: bool,
+    pub start: u32,
+    pub stop: u32,
     pub day: u32,
+    pub rest: u64,
+    pub reason: u8,
+    pub today: Today,
 }
 
-fn later(x: u32, y: u32) -> u32
-    ensures { λ r. ⌜ r ≡ max x y ⌝ }
+pub(crate) fn is_going(w: Walk) -> bool
+    ensures { λ r. ⌜ r ≡ w .going ⌝ }
 {
-    if x < y { y } else { x }
+    w.going
 }
 
-// The last day of any fixed or mixed period.
-pub(crate) fn stop_of(plan: &[u8]) -> Stop
-    requires { ⌜ Orderly (now plan) ⌝ }
-    ensures { λ r. ⌜ (r .any ≡ hasStop (now (plan .entry))) × (r .day ≡ stopDay (now (plan .entry))) ⌝ }
+// The day to be looked at.
+pub(crate) fn day_of(w: Walk) -> u32
+    ensures { λ r. ⌜ r ≡ w .day ⌝ }
 {
-    let n = (plan.len() / 512) as u8;
-    let mut any = false;
-    let mut day: u32 = 0;
-    for b in 0..n {
-        if !is_supplied(plan, b) {
-            continue;
-        }
-        any = true;
-        day = later(day, last_of(block_of(plan, b as u16)));
-    }
-    Stop { any, day }
+    w.day
 }
 
 // Why the walk ended on the stop day.
@@ -55,72 +49,78 @@ fn reason_at(stop: u32) -> u8
     if stop == Day::LAST.number { 3 } else { 2 }
 }
 
-// The last of n days from the start on: the open mark where there is none.
-fn last_of_days(start: u32, n: u32) -> u32
-    requires { ⌜ (start ≤ lastNumber) × (n ≤ lastNumber + 1) ⌝ }
-    ensures { λ r. ⌜ r ≡ cond (eqb n 0) openMark (start + n - 1) ⌝ }
-{
-    if n == 0 {
-        return Day::OPEN.number;
-    }
-    start + n - 1
-}
-
-// What a day needs whose doses need so much: nothing if it is paused.
-fn need_today(paused: bool, due: u64) -> u64
-    ensures { λ r. ⌜ r ≡ cond paused 0 due ⌝ }
+// What the day needs: nothing if it is paused.
+fn need_of(t: Today, paused: bool) -> u64
+    requires { ⌜ t .first .due + t .second .due < 18446744073709551616 ⌝ }
+    ensures { λ r. ⌜ r ≡ cond paused 0 (t .first .due + t .second .due) ⌝ }
 {
     if paused {
         return 0;
     }
-    due
+    let first = t.first;
+    let second = t.second;
+    first.due + second.due
 }
 
-// How far the pack lasts.
-pub(crate) fn lasting(
-    plan: &[u8],
-    at: [Pause; 32],
-    choice: u32,
-    start: u32,
-    stop: u32,
-    pack: u64,
-) -> Lasting
-    requires { ⌜ Orderly (now plan) ⌝ }
-    requires { ⌜ (start ≤ stop) × (stop ≤ lastNumber) × (pack < cap) ⌝ }
-    ensures { λ r. ⌜ r ≡ lastingOf (needOn choice (now (plan .entry)) at) start stop pack ⌝ }
+// The day behind that of t, which stands on the day ahead of `day`.
+fn today_at(plan: &[u8], choice: u32, day: u32, t: Today) -> Today
+    requires { ⌜ Orderly choice (now plan) ⌝ }
+    requires { ⌜ (1 ≤ day) × (day ≤ lastNumber) × Known choice (now plan) (day - 1) t ⌝ }
+    ensures { λ r. ⌜ Known choice (now (plan .entry)) day r ⌝ }
 {
-    let mut n: u32 = 0;
-    let mut rest = pack;
-    let mut spell = spell_on(at, start);
-    let mut t = on_day(plan, choice, start);
-    let mut needs = needs_of(plan, choice, t);
-    while n <= stop - start {
-        let need = need_today(spell.paused, t.due);
-        if rest < need {
-            return Lasting {
-                days: n,
-                last: last_of_days(start, n),
-                rest,
-                reason: 1,
-            };
-        }
-        rest -= need;
-        n += 1;
-        if spell.until < start + n {
-            spell = spell_on(at, start + n);
-        }
-        if t.until < start + n {
-            t = on_day(plan, choice, start + n);
-            let list = needs_of(plan, choice, t);
-            needs = list;
-        } else {
-            t = next_day(plan, choice, t, &needs);
-        }
+    if t.until < day {
+        return on_day(plan, choice, day);
     }
-    Lasting {
-        days: n,
-        last: last_of_days(start, n),
-        rest,
-        reason: reason_at(stop),
+    next_day(plan, choice, t)
+}
+
+// The walk after the day that it stands on.
+pub(crate) fn next(plan: &[u8], choice: u32, w: Walk, paused: bool) -> Walk
+    requires { ⌜ Going choice (now plan) w ⌝ }
+    ensures { λ r. ⌜ Stepped choice (now (plan .entry)) paused w r ⌝ }
+{
+    let mut r = w;
+    let need = need_of(w.today, paused);
+    if w.rest < need {
+        r.going = false;
+        r.reason = 1;
+        return r;
     }
+    r.rest = w.rest - need;
+    r.day = w.day + 1;
+    if w.day == w.stop {
+        r.going = false;
+        r.reason = reason_at(w.stop);
+        return r;
+    }
+    r.today = today_at(plan, choice, w.day + 1, w.today);
+    r
+}
+
+// The last of the days from the start on to the one ahead of `day`: the open mark where there is none.
+fn last_of_days(start: u32, day: u32) -> u32
+    requires { ⌜ start ≤ day ⌝ }
+    ensures { λ r. ⌜ r ≡ cond (eqb (day - start) 0) openMark (day - 1) ⌝ }
+{
+    if day == start {
+        return Day::OPEN.number;
+    }
+    day - 1
+}
+
+// The answer of a walk that is over.
+pub(crate) fn ended(w: Walk) -> Supply
+    requires { ⌜ (w .refused ≡ false → w .start ≤ w .day) ⌝ }
+    ensures { λ r. ⌜ r ≡ endedOf w ⌝ }
+{
+    if w.refused {
+        let refusal = w.refusal;
+        return Supply::Refused(refusal);
+    }
+    Supply::Lasts(Lasting {
+        days: w.day - w.start,
+        last: last_of_days(w.start, w.day),
+        rest: w.rest,
+        reason: w.reason,
+    })
 }

@@ -1,0 +1,5 @@
+-- The laws of a day's need.
+pub mod Rows
+pub mod Wrapped
+pub mod Found
+pub mod Bound

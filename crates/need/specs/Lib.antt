@@ -1,0 +1,2 @@
+-- Document 01, "Supply": what a day needs.
+pub mod Need

@@ -1,0 +1,172 @@
+-- What the walk keeps from day to day: while the periods stay, a day needs what the periods that have it need at its positions there.
+-- Assumes nothing.
+use Prim.Native.Nat.{ℕ, _+_, _-_, _≤_, _<_, min}
+use mathlib.Core.Bool.{Bool, true, false, cond}
+use mathlib.Core.List.{List, []}
+use mathlib.Core.Logic.{⊎-elim}
+use mathlib.Core.Path.{_≡_, refl, sym, ap, _∙_}
+use native.Mathlib.Nat.{eq-or-lt-of-le}
+use native.Mathlib.Omega.{arith}
+use Rattle.below.proofs.Lists.{sum-join}
+use Rattle.below.proofs.Tests.{bool-cases, true-not-false, le-or-lt}
+use Rattle.below.proofs.Total.{sum-zero, sum-more}
+use Rattle.below.specs.Below.{sumBelow}
+use Rattle.below.specs.Lists.{sumOver}
+use Rattle.doses.specs.Doses.{covers, positionOf, dosesOfPeriod, dosesOn}
+use Rattle.need.specs.Need.{chosen, dueOn}
+use Rattle.plan.specs.Fields.{intervalOf, headerOf}
+use Rattle.plan.specs.Periods.{blocksOf, blockAt}
+use Rattle.supply.specs.code.Standing.{Orderly, needAt, needOf, Placed, positionBehind, Moved, Stands, PlacedAt, needIn, Known, Steady, Next}
+use Rattle.supply.specs.declared.place.Place.{Place}
+use Rattle.supply.specs.declared.today.Today.{Today}
+use Rattle.supply.proofs.Placing.{position-behind, position-small}
+use Rattle.supply.proofs.Range.{sum-flat, period-sum, need-small}
+
+-- a test that fails from lo to below b fails on b too
+pub none-on : {test : ℕ → Bool} {lo b : ℕ} (p : (k : ℕ) → lo ≤ k → k < b → test k ≡ false) → test b ≡ false → (k : ℕ) → lo ≤ k → k < b + 1 → test k ≡ false
+none-on {b = b} h e k l m = ⊎-elim (λ (q : k ≡ b). rw q e) (λ (q : k < b). h k l q) (eq-or-lt-of-le (let z : k ≤ b = omega arith in z))
+
+-- sums with no term, with one and with two
+sum-none : (f : ℕ → ℕ) (n : ℕ) → ((k : ℕ) → k < n → f k ≡ 0) → sumBelow n f ≡ 0
+sum-none f n h = let e : 0 + n ≡ n = omega arith in rw e at (sum-flat f 0 n (λ k a b. h k (omega arith))) ∙ sum-zero f
+
+-- the first b terms are none but those of f b, if there is one
+sum-next : (f : ℕ → ℕ) (m n b : ℕ) → m ≤ b → b < n → ((k : ℕ) → m ≤ k → k < b → f k ≡ 0) → sumBelow (b + 1) f ≡ sumBelow m f + f b
+sum-next f m n b l h z =
+    let e : m + (b - m) ≡ b = omega arith in
+    let s = rw e at (sum-flat f m (b - m) (λ k a c. z k a (omega arith))) in
+    omega (arith, sum-more f b)
+
+sum-end : (f : ℕ → ℕ) (m n : ℕ) → m ≤ n → ((k : ℕ) → m ≤ k → k < n → f k ≡ 0) → sumBelow n f ≡ sumBelow m f
+sum-end f m n l z = let e : m + (n - m) ≡ n = omega arith in rw e at (sum-flat f m (n - m) (λ k a c. z k a (omega arith)))
+
+-- the days from d to u have the periods of day d, which begin at blocks b and c, if there are such blocks
+module _ (choice : ℕ) (p : List ℕ) (o : Orderly choice p) {d u b c : ℕ} (r : d ≤ u) (w : (k : ℕ) → k < blocksOf p → Steady (λ e. covers p e k) d u) (first : Next p d 0 b) (second : Next p d (b + 1) c) where
+  module _ (e : ℕ) (l : d ≤ e) (h : e ≤ u) where
+    -- what block k adds to day e
+    abbrev term : ℕ → ℕ
+    term k = sumOver (chosen choice) (cond (covers p e k) (dosesOfPeriod p e k) [])
+
+    plan-sum : dueOn choice p e ≡ sumBelow (blocksOf p) term
+    unfolding dueOn dosesOn
+    plan-sum = let m : min (blocksOf p) 64 ≡ blocksOf p = omega (arith, o .few) in rw m (sum-join (chosen choice) (blocksOf p) _)
+
+    out : (k : ℕ) → k < blocksOf p → covers p d k ≡ false → term k ≡ 0
+    unfolding sumOver
+    out k m f = let t : covers p e k ≡ false = w k m e l h ∙ f in rw t
+
+    has : (k : ℕ) → k < blocksOf p → covers p d k ≡ true → term k ≡ needOf choice p k e
+    has k m f = let t : covers p e k ≡ true = w k m e l h ∙ f in rw t (period-sum choice p e k)
+
+    -- neither, one of them, or both
+    sum-neither : blocksOf p ≤ b → dueOn choice p e ≡ 0
+    sum-neither m = plan-sum ∙ sum-none term (blocksOf p) (λ k q. out k q (first .before k (omega arith) (omega arith)))
+
+    to-first : b < blocksOf p → sumBelow (b + 1) term ≡ needOf choice p b e
+    to-first m =
+        omega (
+          arith,
+          sum-next term 0 (blocksOf p) b (omega arith) m (λ k q r. out k (omega arith) (first .before k q r)),
+          sum-zero term,
+          has b m (first .here m),
+        )
+
+    sum-one : b < blocksOf p → blocksOf p ≤ c → dueOn choice p e ≡ needOf choice p b e
+    sum-one m n = plan-sum ∙ sum-end term (b + 1) (blocksOf p) (omega arith) (λ k q r. out k r (second .before k q (omega arith))) ∙ to-first m
+
+    sum-both : b < blocksOf p → c < blocksOf p → dueOn choice p e ≡ needOf choice p b e + needOf choice p c e
+    sum-both m n =
+        let i : b < c = omega (arith, second .behind) in
+        let s = sum-end term (c + 1) (blocksOf p) (omega arith) (λ k q r. out k r (o .two d b c k i (omega arith) r (first .here m) (second .here n))) in
+        let t = sum-next term (b + 1) (blocksOf p) c (second .behind) n (λ k q r. out k (omega arith) (second .before k q r)) in
+        plan-sum ∙ omega (arith, to-first m, has c n (second .here n))
+
+  -- so the two places have what the days need
+  module _ {f g : Place} (x : PlacedAt choice p d b f) (y : PlacedAt choice p d c g) where
+    at-first : b < blocksOf p → (e : ℕ) → needIn choice p f e ≡ needOf choice p b e
+    at-first m e = let q = x .there m in rw (q .0, q .1)
+
+    at-second : c < blocksOf p → (e : ℕ) → needIn choice p g e ≡ needOf choice p c e
+    at-second m e = let q = y .there m in rw (q .0, q .1)
+
+    no-first : blocksOf p ≤ b → (e : ℕ) → needIn choice p f e ≡ 0
+    no-first m e = rw (x .past m)
+
+    no-second : blocksOf p ≤ c → (e : ℕ) → needIn choice p g e ≡ 0
+    no-second m e = rw (y .past m)
+
+    pub known-on-day : Known choice p d (record { until = u; first = f; second = g })
+    known-on-day =
+        record {
+          reached = r;
+          first = x .stands;
+          second = y .stands;
+          sum =
+              λ e l h.
+              ⊎-elim
+              (λ (m : blocksOf p ≤ b).
+              omega (arith, sum-neither e l h m, no-first m e, no-second (omega (arith, second .behind)) e))
+              (λ (m : b < blocksOf p).
+              ⊎-elim
+              (λ (n : blocksOf p ≤ c). omega (arith, sum-one e l h m n, at-first m e, no-second n e))
+              (λ (n : c < blocksOf p). omega (arith, sum-both e l h m n, at-first m e, at-second n e))
+              (le-or-lt (blocksOf p) c))
+              (le-or-lt (blocksOf p) b);
+        }
+
+-- what is due at a place is what its period needs on the day, and is small
+module _ {choice : ℕ} {p : List ℕ} {d : ℕ} {t : Place} (s : Stands choice p d t) where
+  pub stands-due : t .due ≡ needIn choice p t d
+  stands-due =
+      ⊎-elim
+      (λ (a : t .any ≡ true). rw a (s .placed a .due-is ∙ ap (needAt choice p (t .b)) (s .position-is a)))
+      (λ (a : t .any ≡ false). rw a (s .none a))
+      (bool-cases (t .any))
+
+  pub stands-small : t .due ≤ 12799999998720
+  stands-small =
+      ⊎-elim
+      (λ (a : t .any ≡ true). let q = s .placed a in omega (arith, q .due-is, need-small choice p (t .b) (t .position) (q .small)))
+      (λ (a : t .any ≡ false). omega (arith, s .none a))
+      (bool-cases (t .any))
+
+  -- positions are small
+  pub stands-low : t .any ≡ true → t .position ≤ d + 1
+  stands-low a = omega (arith, s .position-is a, position-small (blockAt p (t .b)) d)
+
+  -- a day later
+  pub stands-on : {r : Place} → Moved choice p t r → Stands choice p (d + 1) r
+  stands-on {r} m =
+      record {
+        none = λ a. let b = sym (m .any-is) ∙ a in ap (λ (z : Place). z .due) (m .none b) ∙ s .none b;
+        placed = λ a. m .placed (sym (m .any-is) ∙ a);
+        position-is =
+            λ a.
+            let b = sym (m .any-is) ∙ a in
+            m .position-is b ∙
+            rw (s .placed b .interval-is, s .position-is b, m .block-is) (sym (position-behind (blockAt p (t .b)) d (s .began b)));
+        began = λ a. rw (m .block-is) (omega (arith, s .began (sym (m .any-is) ∙ a)));
+      }
+
+  pub need-kept : {r : Place} → Moved choice p t r → (e : ℕ) → needIn choice p r e ≡ needIn choice p t e
+  need-kept m e = rw (m .any-is, m .block-is)
+
+module _ {choice : ℕ} {p : List ℕ} {d : ℕ} {t : Today} (k : Known choice p d t) where
+  -- what is due is the day's need
+  pub known-due : t .first .due + t .second .due ≡ dueOn choice p d
+  known-due = omega (arith, k .sum d (omega arith) (k .reached), stands-due (k .first), stands-due (k .second))
+
+  pub known-small : t .first .due + t .second .due ≤ 25599999997440
+  known-small = omega (arith, stands-small (k .first), stands-small (k .second))
+
+  pub known-on : {r : Today} → (r .until ≡ t .until) × Moved choice p (t .first) (r .first) × Moved choice p (t .second) (r .second) → d + 1 ≤ t .until → Known choice p (d + 1) r
+  known-on {r} (u, m, n) l =
+      record {
+        reached = omega (arith, u);
+        first = stands-on (k .first) m;
+        second = stands-on (k .second) n;
+        sum =
+            λ e h q.
+            k .sum e (omega arith) (omega (arith, u)) ∙
+            sym (omega (arith, need-kept (k .first) m e, need-kept (k .second) n e));
+      }

@@ -1,0 +1,109 @@
+-- What the walk counts on, and what it keeps from day to day. No answer is stated by these.
+use Prim.Native.Nat.{ℕ, _+_, _≤_, _<_}
+use mathlib.Core.Path.{_≡_}
+use mathlib.Core.Bool.{Bool, true, false, cond}
+use mathlib.Core.List.{List}
+use lib.Dec.{eqb}
+use Rattle.below.specs.Below.{sumBelow}
+use Rattle.doses.specs.Doses.{covers, positionOf, applies}
+use Rattle.need.specs.Need.{chosen, dueOn}
+use Rattle.plan.specs.Fields.{intervalOf, firstOf, headerOf}
+use Rattle.plan.specs.Periods.{blocksOf, blockAt, isPeriod, dosesOf, doseIn}
+use Rattle.supply.specs.declared.place.Place.{Place}
+use Rattle.supply.specs.declared.today.Today.{Today}
+
+-- day numbers do not fall (rule 7)
+abbrev pub Sorted : List ℕ → ℕ → Type 0
+Sorted p b = (i j : ℕ) → i ≤ j → j < dosesOf p b → doseIn p b i .day ≤ doseIn p b j .day
+
+-- the period's doses are few, and none counts for more than rule 4 allows
+pub record Small (choice : ℕ) (p : List ℕ) (b : ℕ) : Type 0 where
+  pub few : dosesOf p b ≤ 1280
+  pub each : (j : ℕ) → j < dosesOf p b → chosen choice (doseIn p b j) ≤ 9999999999
+
+-- what the walk counts on: rules 1, 4, 7 and 16, by which no three periods share a day
+pub record Orderly (choice : ℕ) (p : List ℕ) : Type 0 where
+  pub few : blocksOf p ≤ 32
+  pub sorted : (b : ℕ) → b < blocksOf p → isPeriod p b ≡ true → Sorted p b
+  pub small : (b : ℕ) → b < blocksOf p → isPeriod p b ≡ true → Small choice p b
+  pub two : (d a b c : ℕ) → a < b → b < c → c < blocksOf p → covers p d a ≡ true → covers p d b ≡ true → covers p d c ≡ false
+
+-- j is the first dose whose day number is x or more
+pub record From (p : List ℕ) (b n x j : ℕ) : Type 0 where
+  pub within : j ≤ n
+  pub before : (i : ℕ) → i < j → doseIn p b i .day < x
+  pub behind : (i : ℕ) → j ≤ i → i < n → x ≤ doseIn p b i .day
+
+-- the lowest day number that counts at a position
+abbrev pub lowestAt : ℕ → ℕ
+lowestAt position = cond (eqb position 1) 0 position
+
+-- what the period at block b needs at a position
+unfoldable pub needAt : ℕ → List ℕ → ℕ → ℕ → ℕ
+needAt choice p b x =
+    sumBelow (dosesOf p b) (λ j. cond (applies x (doseIn p b j)) (chosen choice (doseIn p b j)) 0)
+
+-- what it needs on day d
+abbrev pub needOf : ℕ → List ℕ → ℕ → ℕ → ℕ
+needOf choice p b d = needAt choice p b (positionOf (headerOf (blockAt p b)) d)
+
+-- t stands in the doses of its period, behind those of its position
+pub record Placed (choice : ℕ) (p : List ℕ) (t : Place) : Type 0 where
+  pub sorted : Sorted p (t .b)
+  pub small : Small choice p (t .b)
+  pub all : t .doses ≡ dosesOf p (t .b)
+  pub interval-is : t .interval ≡ intervalOf (blockAt p (t .b))
+  pub some : 0 < t .position
+  pub behind : From p (t .b) (t .doses) (t .position + 1) (t .behind)
+  pub due-is : t .due ≡ needAt choice p (t .b) (t .position)
+
+-- the position of the day behind one at position x, in rounds of k days; k is 0 where there are none
+abbrev pub positionBehind : ℕ → ℕ → ℕ
+positionBehind k x = cond (eqb x k) 1 (x + 1)
+
+-- where the doses of a position begin, if those of the position ahead of it end at a dose
+abbrev pub doseFrom : ℕ → ℕ → ℕ
+doseFrom x behind = cond (eqb x 1) 0 behind
+
+-- r is where the period of t stands a day later
+pub record Moved (choice : ℕ) (p : List ℕ) (t r : Place) : Type 0 where
+  pub any-is : r .any ≡ t .any
+  pub block-is : r .b ≡ t .b
+  pub none : t .any ≡ false → r ≡ t
+  pub placed : t .any ≡ true → Placed choice p r
+  pub position-is : t .any ≡ true → r .position ≡ positionBehind (t .interval) (t .position)
+
+-- t is where day d stands in a period, or in none
+pub record Stands (choice : ℕ) (p : List ℕ) (d : ℕ) (t : Place) : Type 0 where
+  pub none : t .any ≡ false → t .due ≡ 0
+  pub placed : t .any ≡ true → Placed choice p t
+  pub position-is : t .any ≡ true → t .position ≡ positionOf (headerOf (blockAt p (t .b))) d
+  pub began : t .any ≡ true → firstOf (blockAt p (t .b)) ≤ d
+
+-- t is where day d stands in the period at block b, or in none where there is no such block
+pub record PlacedAt (choice : ℕ) (p : List ℕ) (d b : ℕ) (t : Place) : Type 0 where
+  pub stands : Stands choice p d t
+  pub there : b < blocksOf p → (t .any ≡ true) × (t .b ≡ b)
+  pub past : blocksOf p ≤ b → t .any ≡ false
+
+-- what the period of a place needs on a day
+abbrev pub needIn : ℕ → List ℕ → Place → ℕ → ℕ
+needIn choice p t d = cond (t .any) (needOf choice p (t .b) d) 0
+
+-- t is where day d stands in its periods, and up to day `until` no other period has a day. What a period needs is its own: the other
+-- has no part in it
+pub record Known (choice : ℕ) (p : List ℕ) (d : ℕ) (t : Today) : Type 0 where
+  pub reached : d ≤ t .until
+  pub first : Stands choice p d (t .first)
+  pub second : Stands choice p d (t .second)
+  pub sum : (e : ℕ) → d ≤ e → e ≤ t .until → dueOn choice p e ≡ needIn choice p (t .first) e + needIn choice p (t .second) e
+
+-- the test answers on each day from d to u as it does on d
+abbrev pub Steady : (ℕ → Bool) → ℕ → ℕ → Type 0
+Steady test d u = (e : ℕ) → d ≤ e → e ≤ u → test e ≡ test d
+
+-- b is the first block from lo on whose period has day d; past all blocks where there is none
+pub record Next (p : List ℕ) (d lo b : ℕ) : Type 0 where
+  pub behind : lo ≤ b
+  pub before : (k : ℕ) → lo ≤ k → k < b → covers p d k ≡ false
+  pub here : b < blocksOf p → covers p d b ≡ true

@@ -1,0 +1,70 @@
+-- The walk over the days: where it begins, a day of it, and where it ends. No answer is stated by these.
+use Prim.Native.Nat.{ℕ, _+_, _-_, _≤_, _<_}
+use mathlib.Core.Path.{_≡_}
+use mathlib.Core.Bool.{Bool, true, false, cond}
+use mathlib.Core.List.{List}
+use lib.Dec.{eqb}
+use Rattle.day.specs.Days.{lastNumber, openMark}
+use Rattle.need.specs.Need.{dueOn, needOn, stopDay}
+use Rattle.pause.specs.declared.Pause.{Pause}
+use Rattle.verdict.specs.Verdict.{verdictOf}
+use Rattle.supply.specs.Supply.{lastingOf, judgedOf, passedOn}
+use Rattle.supply.specs.code.Standing.{Orderly, Known}
+use Rattle.supply.specs.declared.Lasting.{Lasting}
+use Rattle.supply.specs.declared.Supply.{Supply}
+use Rattle.supply.specs.declared.Supply.the-variants.{Lasts, Refused}
+use Rattle.supply.specs.declared.walk.Walk.{Walk}
+
+-- the walk stands on a day that is to be looked at
+pub record Going (choice : ℕ) (p : List ℕ) (w : Walk) : Type 0 where
+  pub orderly : Orderly choice p
+  pub on : w .going ≡ true
+  pub begun : w .start ≤ w .day
+  pub within : w .day ≤ w .stop
+  pub dated : w .stop ≤ lastNumber
+  pub known : Known choice p (w .day) (w .today)
+
+-- a walk that is ready: it stands on its first day, or is refused and over
+pub record Ready (choice : ℕ) (p : List ℕ) (w : Walk) : Type 0 where
+  pub over : w .refused ≡ true → w .going ≡ false
+  pub goes : w .refused ≡ false → w .going ≡ true
+  pub first : w .refused ≡ false → w .day ≡ w .start
+  pub at : w .refused ≡ false → Going choice p w
+
+-- what is asked for, once the plan is judged; `out` says that 21 is due
+pub record Begun (p : List ℕ) (start pack choice : ℕ) (out : Bool) (w : Walk) : Type 0 where
+  pub ready : Ready choice p w
+  pub refused-is : w .refused ≡ true → (ps : List Pause) → passedOn (verdictOf p) (judgedOf p start pack choice out ps) ≡ Refused (w .refusal)
+  pub lasts-is : w .refused ≡ false → (ps : List Pause) → passedOn (verdictOf p) (judgedOf p start pack choice out ps) ≡ Lasts (lastingOf (needOn choice p ps) (w .start) (w .stop) (w .rest))
+
+-- a day of the walk, whose need is taken from the rest if the rest has it
+pub record Stepped (choice : ℕ) (p : List ℕ) (paused : Bool) (w r : Walk) : Type 0 where
+  pub refused-is : r .refused ≡ w .refused
+  pub refusal-is : r .refusal ≡ w .refusal
+  pub start-is : r .start ≡ w .start
+  pub stop-is : r .stop ≡ w .stop
+  pub short : w .rest < cond paused 0 (dueOn choice p (w .day)) → (r .going ≡ false) × (r .day ≡ w .day) × (r .rest ≡ w .rest) × (r .reason ≡ 1)
+  pub more : cond paused 0 (dueOn choice p (w .day)) ≤ w .rest → (r .day ≡ w .day + 1) × (r .rest ≡ w .rest - cond paused 0 (dueOn choice p (w .day)))
+  pub goes : cond paused 0 (dueOn choice p (w .day)) ≤ w .rest → w .day < w .stop → (r .going ≡ true) × Known choice p (w .day + 1) (r .today)
+  pub over : cond paused 0 (dueOn choice p (w .day)) ≤ w .rest → w .stop ≤ w .day → (r .going ≡ false) × (r .reason ≡ cond (eqb (w .stop) lastNumber) 3 2)
+
+-- what the walk says when it is over
+abbrev pub lastingAt : Walk → Lasting
+lastingAt w =
+    record {
+      days = w .day - w .start;
+      last = cond (eqb (w .day - w .start) 0) openMark (w .day - 1);
+      rest = w .rest;
+      reason = w .reason;
+    }
+
+-- r is where the walk w ends
+pub record Ended (choice : ℕ) (p : List ℕ) (ps : List Pause) (w r : Walk) : Type 0 where
+  pub refused-is : r .refused ≡ w .refused
+  pub refusal-is : r .refusal ≡ w .refusal
+  pub begun : w .refused ≡ false → r .start ≤ r .day
+  pub lasting-is : w .refused ≡ false → lastingAt r ≡ lastingOf (needOn choice p ps) (w .start) (w .stop) (w .rest)
+
+-- the answer of a walk that is over
+abbrev pub endedOf : Walk → Supply
+endedOf w = cond (w .refused) (Refused (w .refusal)) (Lasts (lastingAt w))

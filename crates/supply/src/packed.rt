@@ -1,0 +1,27 @@
+// The way in to supply with the packed pauses of the C call: they are unpacked, and lent as records to `supply_of`.
+use crate::Supply;
+use crate::lent::supply_of;
+use pause::Pause;
+use pause::unpack;
+ghost use mathlib.Core.Path.{_≡_};
+ghost use Prim.Native.Nat.{_≤_};
+ghost use lib.ListN.{take};
+ghost use Rattle.supply.specs.Supply.{supplyOf, packedSupplyOf};
+
+// The first n records, lent as a list. The borrow checker does not cover the function, since it lends an array of records: its
+// proof is by hand.
+fn supply_lent(plan: &[u8], start: u32, pack: u64, choice: u32, at: [Pause; 32], n: usize) -> Supply
+    requires { ⌜ n ≤ 32 ⌝ }
+    ensures { λ r. ⌜ r ≡ supplyOf (now (plan .entry)) start pack choice (take n at) ⌝ }
+{
+    supply_of(plan, start, pack, choice, &at[..n])
+}
+
+// How far a pack lasts, with pauses of 8 bytes each. Another length is 21.
+pub fn supply_packed(plan: &[u8], start: u32, pack: u64, choice: u32, pauses: &[u8]) -> Supply
+    ensures { λ r. ⌜ r ≡ packedSupplyOf (now (plan .entry)) start pack choice (now (pauses .entry)) ⌝ }
+{
+    let kept = unpack(pauses);
+    let at = kept.at;
+    supply_lent(plan, start, pack, choice, at, kept.count)
+}
