@@ -1,14 +1,15 @@
 -- What the walk keeps from day to day: while the periods stay, a day needs what the periods that have it need at its positions there.
 -- Assumes nothing.
 use Prim.Native.Nat.{ℕ, _+_, _-_, _≤_, _<_, min}
-use mathlib.Core.Bool.{Bool, true, false, cond}
+use mathlib.Core.Bool.{Bool, true, false, cond, _&&_}
 use mathlib.Core.List.{List, []}
 use mathlib.Core.Logic.{⊎-elim}
 use mathlib.Core.Path.{_≡_, refl, sym, ap, _∙_}
 use native.Mathlib.Nat.{eq-or-lt-of-le}
 use native.Mathlib.Omega.{arith}
+use borrow.Author.Tests.{eqb-true}
 use Rattle.below.proofs.Lists.{sum-join}
-use Rattle.below.proofs.Tests.{bool-cases, true-not-false, le-or-lt}
+use Rattle.below.proofs.Tests.{bool-cases, and-both, true-not-false, le-or-lt}
 use Rattle.below.proofs.Total.{sum-zero, sum-more}
 use Rattle.below.specs.Below.{sumBelow}
 use Rattle.below.specs.Lists.{sumOver}
@@ -16,9 +17,11 @@ use Rattle.doses.specs.Doses.{covers, positionOf, dosesOfPeriod, dosesOn}
 use Rattle.need.specs.Need.{chosen, dueOn}
 use Rattle.plan.specs.Fields.{intervalOf, headerOf}
 use Rattle.plan.specs.Periods.{blocksOf, blockAt}
-use Rattle.supply.specs.code.Standing.{Orderly, needAt, needOf, Placed, positionBehind, Moved, Stands, PlacedAt, needIn, Known, Steady, Next}
+use Rattle.supply.specs.code.Standing.{Orderly, needAt, needOf, isStill, Moved, InPeriod, Stands, IsAt, needIn, Known, Behind, Steady, Next}
+use Rattle.supply.specs.declared.place.Period.{Period}
 use Rattle.supply.specs.declared.place.Place.{Place}
 use Rattle.supply.specs.declared.today.Today.{Today}
+use Rattle.supply.proofs.Accepted.{covers-period, covers-begun}
 use Rattle.supply.proofs.Placing.{position-behind, position-small}
 use Rattle.supply.proofs.Range.{sum-flat, period-sum, need-small}
 
@@ -81,13 +84,13 @@ module _ (choice : ℕ) (p : List ℕ) (o : Orderly choice p) {d u b c : ℕ} (r
         let t = sum-next term (b + 1) (blocksOf p) c (second .behind) n (λ k q r. out k (omega arith) (second .before k q r)) in
         plan-sum ∙ omega (arith, to-first m, has c n (second .here n))
 
-  -- so the two places have what the days need
-  module _ {f g : Place} (x : PlacedAt choice p d b f) (y : PlacedAt choice p d c g) where
+  -- so the two periods have what the days need
+  module _ {f g : Period} (x : IsAt p b f) (y : IsAt p c g) where
     at-first : b < blocksOf p → (e : ℕ) → needIn choice p f e ≡ needOf choice p b e
-    at-first m e = let q = x .there m in rw (q .0, q .1)
+    at-first m e = let q = x .block m in rw (q .0, q .1)
 
     at-second : c < blocksOf p → (e : ℕ) → needIn choice p g e ≡ needOf choice p c e
-    at-second m e = let q = y .there m in rw (q .0, q .1)
+    at-second m e = let q = y .block m in rw (q .0, q .1)
 
     no-first : blocksOf p ≤ b → (e : ℕ) → needIn choice p f e ≡ 0
     no-first m e = rw (x .past m)
@@ -95,12 +98,14 @@ module _ (choice : ℕ) (p : List ℕ) (o : Orderly choice p) {d u b c : ℕ} (r
     no-second : blocksOf p ≤ c → (e : ℕ) → needIn choice p g e ≡ 0
     no-second m e = rw (y .past m)
 
-    pub known-on-day : Known choice p d (record { until = u; first = f; second = g })
-    known-on-day =
+    pub known-on-day : {v : Bool} {i j : Place} → v ≡ (isStill f && isStill g) → Stands choice p d f i → Stands choice p d g j →
+        Known choice p d (record { until = u; still = v; first = f; second = g; in_first = i; in_second = j })
+    known-on-day q m n =
         record {
           reached = r;
-          first = x .stands;
-          second = y .stands;
+          still = λ t. and-both _ _ (sym q ∙ t);
+          first = m;
+          second = n;
           sum =
               λ e l h.
               ⊎-elim
@@ -114,59 +119,101 @@ module _ (choice : ℕ) (p : List ℕ) (o : Orderly choice p) {d u b c : ℕ} (r
               (le-or-lt (blocksOf p) b);
         }
 
+-- a period that the search found is as the walk counts on
+pub found-in : (choice : ℕ) (p : List ℕ) → Orderly choice p → {d lo b : ℕ} {t : Period} → Next p d lo b → IsAt p b t → t .any ≡ true → InPeriod choice p d t
+found-in choice p o {d} {b = b} n x a =
+    ⊎-elim
+    (λ (l : blocksOf p ≤ b). absurd (true-not-false a (x .past l)))
+    (λ (l : b < blocksOf p).
+    let h = n .here l in
+    let e = covers-period p d b h in
+    let q : _ ≡ b = x .block l .1 in
+    record {
+      sorted = rw q (o .sorted b l e);
+      small = rw q (o .small b l e);
+      all = rw q (x .doses-is l);
+      interval-is = rw q (x .interval-is l);
+      began = rw q (covers-begun p d b h);
+    })
+    (le-or-lt (blocksOf p) b)
+
 -- what is due at a place is what its period needs on the day, and is small
-module _ {choice : ℕ} {p : List ℕ} {d : ℕ} {t : Place} (s : Stands choice p d t) where
-  pub stands-due : t .due ≡ needIn choice p t d
+module _ {choice : ℕ} {p : List ℕ} {d : ℕ} {t : Period} {s : Place} (w : Stands choice p d t s) where
+  pub stands-due : s .due ≡ needIn choice p t d
   stands-due =
       ⊎-elim
-      (λ (a : t .any ≡ true). rw a (s .placed a .due-is ∙ ap (needAt choice p (t .b)) (s .position-is a)))
-      (λ (a : t .any ≡ false). rw a (s .none a))
+      (λ (a : t .any ≡ true). rw a (w .placed a .due-is ∙ ap (needAt choice p (t .b)) (w .position-is a)))
+      (λ (a : t .any ≡ false). rw a (w .none a))
       (bool-cases (t .any))
 
-  pub stands-small : t .due ≤ 12799999998720
+  pub stands-small : s .due ≤ 12799999998720
   stands-small =
       ⊎-elim
-      (λ (a : t .any ≡ true). let q = s .placed a in omega (arith, q .due-is, need-small choice p (t .b) (t .position) (q .small)))
-      (λ (a : t .any ≡ false). omega (arith, s .none a))
+      (λ (a : t .any ≡ true). let q = w .placed a in omega (arith, q .due-is, need-small choice p (t .b) (s .position) (q .small)))
+      (λ (a : t .any ≡ false). omega (arith, w .none a))
       (bool-cases (t .any))
 
   -- positions are small
-  pub stands-low : t .any ≡ true → t .position ≤ d + 1
-  stands-low a = omega (arith, s .position-is a, position-small (blockAt p (t .b)) d)
+  pub stands-low : t .any ≡ true → s .position ≤ d + 1
+  stands-low a = omega (arith, w .position-is a, position-small (blockAt p (t .b)) d)
 
   -- a day later
-  pub stands-on : {r : Place} → Moved choice p t r → Stands choice p (d + 1) r
+  pub stands-on : {r : Place} → Moved choice p t s r → Stands choice p (d + 1) t r
   stands-on {r} m =
       record {
-        none = λ a. let b = sym (m .any-is) ∙ a in ap (λ (z : Place). z .due) (m .none b) ∙ s .none b;
-        placed = λ a. m .placed (sym (m .any-is) ∙ a);
+        none = λ a. ap (λ (z : Place). z .due) (m .none a) ∙ w .none a;
+        placed = m .placed;
         position-is =
             λ a.
-            let b = sym (m .any-is) ∙ a in
-            m .position-is b ∙
-            rw (s .placed b .interval-is, s .position-is b, m .block-is) (sym (position-behind (blockAt p (t .b)) d (s .began b)));
-        began = λ a. rw (m .block-is) (omega (arith, s .began (sym (m .any-is) ∙ a)));
+            m .position-is a ∙
+            rw (w .placed a .interval-is, w .position-is a) (sym (position-behind (blockAt p (t .b)) d (w .began a)));
+        began = λ a. omega (arith, w .began a);
       }
 
-  pub need-kept : {r : Place} → Moved choice p t r → (e : ℕ) → needIn choice p r e ≡ needIn choice p t e
-  need-kept m e = rw (m .any-is, m .block-is)
+  -- in rounds of one day, and where there is no period, the place stays
+  stands-still : isStill t ≡ true → Moved choice p t s s
+  unfolding positionOf
+  stands-still h =
+      record {
+        none = λ a. refl;
+        placed = w .placed;
+        position-is =
+            λ a.
+            let i : t .interval ≡ 1 = eqb-true _ _ (rw a at h) in
+            let j : intervalOf (blockAt p (t .b)) ≡ 1 = sym (w .placed a .interval-is) ∙ i in
+            let x : s .position ≡ 1 = w .position-is a ∙ rw j (omega arith) in
+            rw (i, x);
+      }
 
 module _ {choice : ℕ} {p : List ℕ} {d : ℕ} {t : Today} (k : Known choice p d t) where
   -- what is due is the day's need
-  pub known-due : t .first .due + t .second .due ≡ dueOn choice p d
+  pub known-due : t .in_first .due + t .in_second .due ≡ dueOn choice p d
   known-due = omega (arith, k .sum d (omega arith) (k .reached), stands-due (k .first), stands-due (k .second))
 
-  pub known-small : t .first .due + t .second .due ≤ 25599999997440
+  pub known-small : t .in_first .due + t .in_second .due ≤ 25599999997440
   known-small = omega (arith, stands-small (k .first), stands-small (k .second))
 
-  pub known-on : {r : Today} → (r .until ≡ t .until) × Moved choice p (t .first) (r .first) × Moved choice p (t .second) (r .second) → d + 1 ≤ t .until → Known choice p (d + 1) r
-  known-on {r} (u, m, n) l =
+  pub known-on : {r : Today} → Behind choice p t r → d + 1 ≤ t .until → Known choice p (d + 1) r
+  known-on {r} m l =
       record {
-        reached = omega (arith, u);
-        first = stands-on (k .first) m;
-        second = stands-on (k .second) n;
-        sum =
-            λ e h q.
-            k .sum e (omega arith) (omega (arith, u)) ∙
-            sym (omega (arith, need-kept (k .first) m e, need-kept (k .second) n e));
+        reached = omega (arith, m .until-is);
+        still = λ z. rw (m .first-is, m .second-is) (k .still (sym (m .still-is) ∙ z));
+        first = rw (m .first-is) (stands-on (k .first) (m .first));
+        second = rw (m .second-is) (stands-on (k .second) (m .second));
+        sum = λ e h q. rw (m .first-is, m .second-is) (k .sum e (omega arith) (omega (arith, m .until-is)));
       }
+
+  -- where its periods are still a day's places are those of the day ahead
+  pub known-stays : t .still ≡ true → d + 1 ≤ t .until → Known choice p (d + 1) t
+  known-stays z l =
+      let q = k .still z in
+      known-on
+      (record {
+        until-is = refl;
+        still-is = refl;
+        first-is = refl;
+        second-is = refl;
+        first = stands-still (k .first) (q .0);
+        second = stands-still (k .second) (q .1);
+      })
+      l

@@ -1,5 +1,6 @@
 // Where the walk begins: the verdict, then refusals 20 to 24 in their order, and else the first day.
-use crate::place::nowhere;
+use crate::place::NO_PERIOD;
+use crate::place::NO_PLACE;
 use crate::today::Today;
 use crate::today::on_day;
 use crate::walk::Walk;
@@ -55,8 +56,11 @@ fn refused(refusal: Refusal) -> Walk
         reason: 0,
         today: Today {
             until: 0,
-            first: nowhere(),
-            second: nowhere(),
+            still: true,
+            first: NO_PERIOD,
+            second: NO_PERIOD,
+            in_first: NO_PLACE,
+            in_second: NO_PLACE,
         },
     }
 }

@@ -8,57 +8,74 @@ use plan::block_of;
 use plan::doses_of;
 use plan::interval_of;
 ghost use mathlib.Core.Path.{_≡_};
-ghost use mathlib.Core.Bool.{true, false};
+ghost use mathlib.Core.Bool.{true};
 ghost use Prim.Native.Nat.{_≤_};
-ghost use Rattle.plan.specs.Fields.{firstOf};
-ghost use Rattle.plan.specs.Periods.{blockAt};
-ghost use Rattle.supply.specs.code.Standing.{Sorted, Small, positionBehind, doseFrom, Placed, Moved, Stands};
+ghost use Rattle.supply.specs.code.Standing.{positionBehind, doseFrom, isStill, Placed, Moved, Stands, IsAt, InPeriod};
 
-// The period at block b, in rounds of `interval` days, has the day at a position whose doses need `due`. Dose `behind` of `doses` is the
-// one behind them. Where no period has the day nothing is due.
-pub(crate) struct Place {
+// The period at block b, in rounds of `interval` days, has `doses` doses. Or there is none.
+pub(crate) struct Period {
     pub any: bool,
     pub b: u8,
-    pub interval: u64,
-    pub position: u64,
     pub doses: u16,
+    pub interval: u64,
+}
+
+// A day has a position in a period. The doses of that position need `due`, and dose `behind` is the one behind them.
+pub(crate) struct Place {
+    pub position: u64,
     pub behind: u16,
     pub due: u64,
 }
 
-// No period has the day.
-pub(crate) fn nowhere() -> Place
-    ensures { λ r. ⌜ (r .any ≡ false) × (r .due ≡ 0) ⌝ }
+// No period, and a day's place in it: nothing is due.
+pub(crate) const NO_PERIOD: Period = Period {
+    any: false,
+    b: 0,
+    doses: 0,
+    interval: 0,
+};
+
+pub(crate) const NO_PLACE: Place = Place {
+    position: 0,
+    behind: 0,
+    due: 0,
+};
+
+// The period at block b, if there is such a block.
+pub(crate) fn period_at(plan: &[u8], b: u8) -> Period
+    ensures { λ r. ⌜ IsAt (now (plan .entry)) b r ⌝ }
 {
-    Place {
-        any: false,
-        b: 0,
-        interval: 0,
-        position: 0,
-        doses: 0,
-        behind: 0,
-        due: 0,
+    if (b as usize) < plan.len() / 512 {
+        return Period {
+            any: true,
+            b,
+            doses: doses_of(plan, b),
+            interval: interval_of(block_of(plan, b as u16)) as u64,
+        };
     }
+    NO_PERIOD
 }
 
-// The day's place in the period at block b.
-pub(crate) fn place_in(plan: &[u8], choice: u32, day: u32, b: u8) -> Place
-    requires { ⌜ Sorted (now plan) b × Small choice (now plan) b ⌝ }
-    requires { ⌜ firstOf (blockAt (now plan) b) ≤ day ⌝ }
-    ensures { λ r. ⌜ Stands choice (now (plan .entry)) day r × (r .any ≡ true) × (r .b ≡ b) ⌝ }
+// In the period, does each day need what the one ahead of it needs, as in rounds of one day?
+pub(crate) fn is_still(t: Period) -> bool
+    ensures { λ r. ⌜ r ≡ isStill t ⌝ }
 {
-    let block = block_of(plan, b as u16);
-    let interval = interval_of(block);
-    let position = position_of(block, day);
-    let doses = doses_of(plan, b);
-    let from = first_from(plan, b, doses, lowest_at(position));
-    let due = due_at(plan, choice, b, doses, position, from);
+    !t.any | (t.interval == 1)
+}
+
+// The day's place in the period.
+pub(crate) fn place_on(plan: &[u8], choice: u32, day: u32, t: Period) -> Place
+    requires { ⌜ (t .any ≡ true → InPeriod choice (now plan) day t) ⌝ }
+    ensures { λ r. ⌜ Stands choice (now (plan .entry)) day t r ⌝ }
+{
+    if !t.any {
+        return NO_PLACE;
+    }
+    let position = position_of(block_of(plan, t.b as u16), day);
+    let from = first_from(plan, t.b, t.doses, lowest_at(position));
+    let due = due_at(plan, choice, t.b, t.doses, position, from);
     Place {
-        any: true,
-        b,
-        interval: interval as u64,
         position,
-        doses,
         behind: due.behind,
         due: due.need,
     }
@@ -82,32 +99,18 @@ fn doses_from(position: u64, behind: u16) -> u16
     if position == 1 { 0 } else { behind }
 }
 
-// The place of the day behind that of t. In rounds of one day each day needs the same.
-pub(crate) fn next_place(plan: &[u8], choice: u32, t: Place) -> Place
-    requires { ⌜ (t .any ≡ true → Placed choice (now plan) t) × (t .any ≡ true → t .position ≤ 4294967296) ⌝ }
-    ensures { λ r. ⌜ Moved choice (now (plan .entry)) t r ⌝ }
+// The place of the day behind that of s, in the period t.
+pub(crate) fn next_place(plan: &[u8], choice: u32, t: Period, s: Place) -> Place
+    requires { ⌜ (t .any ≡ true → Placed choice (now plan) t s) × (t .any ≡ true → s .position ≤ 4294967296) ⌝ }
+    ensures { λ r. ⌜ Moved choice (now (plan .entry)) t s r ⌝ }
 {
     if !t.any {
-        return t;
+        return s;
     }
-    let position = position_behind(t.interval, t.position);
-    if position == t.position {
-        return t;
-    }
-    let due = due_at(
-        plan,
-        choice,
-        t.b,
-        t.doses,
-        position,
-        doses_from(position, t.behind),
-    );
+    let position = position_behind(t.interval, s.position);
+    let due = due_at(plan, choice, t.b, t.doses, position, doses_from(position, s.behind));
     Place {
-        any: true,
-        b: t.b,
-        interval: t.interval,
         position,
-        doses: t.doses,
         behind: due.behind,
         due: due.need,
     }

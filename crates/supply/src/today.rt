@@ -1,23 +1,28 @@
-// Where a day stands in the periods that have it. By rule 16 there are two at the most; each has a place of its own, which knows nothing of
+// Where a day stands in the periods that have it. By rule 16 there are two at the most; the day has a place in each, which knows nothing of
 // the other. The doses that count are not asked for here: those that do not, by the choice, add nothing.
+use crate::place::Period;
 use crate::place::Place;
+use crate::place::is_still;
 use crate::place::next_place;
-use crate::place::nowhere;
-use crate::place::place_in;
+use crate::place::period_at;
+use crate::place::place_on;
 use crate::until::periods_until;
 use doses::is_covering;
 ghost use mathlib.Core.Path.{_≡_};
 ghost use mathlib.Core.Bool.{true};
-ghost use Prim.Native.Nat.{_≤_, _<_};
-ghost use Rattle.doses.specs.Doses.{covers};
+ghost use Prim.Native.Nat.{_≤_};
 ghost use Rattle.plan.specs.Periods.{blocksOf};
-ghost use Rattle.supply.specs.code.Standing.{Orderly, Placed, Moved, PlacedAt, Known, Next};
+ghost use Rattle.supply.specs.code.Standing.{Orderly, Placed, Known, Behind, Next};
 
-// Up to day `until` the days are in the same periods.
+// The day stands in the periods `first` and `second`, at a place in each. Up to day `until` the days are in the same periods; where those
+// are `still`, each of them needs the same.
 pub(crate) struct Today {
     pub until: u32,
-    pub first: Place,
-    pub second: Place,
+    pub still: bool,
+    pub first: Period,
+    pub second: Period,
+    pub in_first: Place,
+    pub in_second: Place,
 }
 
 // The first block from `lo` on whose period has the day; past all blocks where there is none.
@@ -36,19 +41,7 @@ fn covering_from(plan: &[u8], day: u32, lo: u8) -> u8
     b
 }
 
-// The day's place in the period at block b, if there is such a block.
-fn place_at(plan: &[u8], choice: u32, day: u32, b: u8) -> Place
-    requires { ⌜ Orderly choice (now plan) ⌝ }
-    requires { ⌜ (b < blocksOf (now plan) → covers (now plan) day b ≡ true) ⌝ }
-    ensures { λ r. ⌜ PlacedAt choice (now (plan .entry)) day b r ⌝ }
-{
-    if (b as usize) < plan.len() / 512 {
-        return place_in(plan, choice, day, b);
-    }
-    nowhere()
-}
-
-// A day's places, worked out from the plan.
+// A day's periods and places, worked out from the plan.
 pub(crate) fn on_day(plan: &[u8], choice: u32, day: u32) -> Today
     requires { ⌜ Orderly choice (now plan) ⌝ }
     ensures { λ r. ⌜ Known choice (now (plan .entry)) day r ⌝ }
@@ -56,22 +49,26 @@ pub(crate) fn on_day(plan: &[u8], choice: u32, day: u32) -> Today
     let until = periods_until(plan, day);
     let b = covering_from(plan, day, 0);
     let c = covering_from(plan, day, b + 1);
+    let first = period_at(plan, b);
+    let second = period_at(plan, c);
     Today {
         until,
-        first: place_at(plan, choice, day, b),
-        second: place_at(plan, choice, day, c),
+        still: is_still(first) & is_still(second),
+        first,
+        second,
+        in_first: place_on(plan, choice, day, first),
+        in_second: place_on(plan, choice, day, second),
     }
 }
 
 // The day behind that of t, while the periods stay.
 pub(crate) fn next_day(plan: &[u8], choice: u32, t: Today) -> Today
-    requires { ⌜ (t .first .any ≡ true → Placed choice (now plan) (t .first)) × (t .first .any ≡ true → t .first .position ≤ 4294967296) ⌝ }
-    requires { ⌜ (t .second .any ≡ true → Placed choice (now plan) (t .second)) × (t .second .any ≡ true → t .second .position ≤ 4294967296) ⌝ }
-    ensures { λ r. ⌜ (r .until ≡ t .until) × Moved choice (now (plan .entry)) (t .first) (r .first) × Moved choice (now (plan .entry)) (t .second) (r .second) ⌝ }
+    requires { ⌜ (t .first .any ≡ true → Placed choice (now plan) (t .first) (t .in_first)) × (t .first .any ≡ true → t .in_first .position ≤ 4294967296) ⌝ }
+    requires { ⌜ (t .second .any ≡ true → Placed choice (now plan) (t .second) (t .in_second)) × (t .second .any ≡ true → t .in_second .position ≤ 4294967296) ⌝ }
+    ensures { λ r. ⌜ Behind choice (now (plan .entry)) t r ⌝ }
 {
-    Today {
-        until: t.until,
-        first: next_place(plan, choice, t.first),
-        second: next_place(plan, choice, t.second),
-    }
+    let mut r = t;
+    r.in_first = next_place(plan, choice, t.first, t.in_first);
+    r.in_second = next_place(plan, choice, t.second, t.in_second);
+    r
 }

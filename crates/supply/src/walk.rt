@@ -8,8 +8,8 @@ use day::Day;
 use refusal::Refusal;
 ghost use mathlib.Core.Path.{_≡_};
 ghost use Prim.Native.Nat.{_+_, _-_, _≤_, _<_};
-ghost use mathlib.Core.Bool.{true, false, cond};
-ghost use lib.Dec.{eqb};
+ghost use mathlib.Core.Bool.{false, cond, _&&_};
+ghost use lib.Dec.{eqb, ltb};
 ghost use Rattle.day.specs.Days.{lastNumber, openMark};
 ghost use Rattle.need.specs.Need.{dueOn};
 ghost use Rattle.supply.specs.code.Standing.{Orderly, Known};
@@ -51,14 +51,14 @@ fn reason_at(stop: u32) -> u8
 
 // What the day needs: nothing if it is paused.
 fn need_of(t: Today, paused: bool) -> u64
-    requires { ⌜ t .first .due + t .second .due < 18446744073709551616 ⌝ }
-    ensures { λ r. ⌜ r ≡ cond paused 0 (t .first .due + t .second .due) ⌝ }
+    requires { ⌜ t .in_first .due + t .in_second .due < 18446744073709551616 ⌝ }
+    ensures { λ r. ⌜ r ≡ cond paused 0 (t .in_first .due + t .in_second .due) ⌝ }
 {
     if paused {
         return 0;
     }
-    let first = t.first;
-    let second = t.second;
+    let first = t.in_first;
+    let second = t.in_second;
     first.due + second.due
 }
 
@@ -72,6 +72,13 @@ fn today_at(plan: &[u8], choice: u32, day: u32, t: Today) -> Today
         return on_day(plan, choice, day);
     }
     next_day(plan, choice, t)
+}
+
+// Does the day behind this one need the same, in the same periods?
+fn is_steady(t: Today, day: u32) -> bool
+    ensures { λ r. ⌜ r ≡ (t .still && ltb day (t .until)) ⌝ }
+{
+    t.still & (day < t.until)
 }
 
 // The walk after the day that it stands on.
@@ -91,6 +98,9 @@ pub(crate) fn next(plan: &[u8], choice: u32, w: Walk, paused: bool) -> Walk
     if w.day == w.stop {
         r.going = false;
         r.reason = reason_at(w.stop);
+        return r;
+    }
+    if is_steady(w.today, w.day) {
         return r;
     }
     r.today = today_at(plan, choice, w.day + 1, w.today);

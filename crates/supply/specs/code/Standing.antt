@@ -1,7 +1,7 @@
 -- What the walk counts on, and what it keeps from day to day. No answer is stated by these.
 use Prim.Native.Nat.{ℕ, _+_, _≤_, _<_}
 use mathlib.Core.Path.{_≡_}
-use mathlib.Core.Bool.{Bool, true, false, cond}
+use mathlib.Core.Bool.{Bool, true, false, cond, not, _||_}
 use mathlib.Core.List.{List}
 use lib.Dec.{eqb}
 use Rattle.below.specs.Below.{sumBelow}
@@ -9,6 +9,7 @@ use Rattle.doses.specs.Doses.{covers, positionOf, applies}
 use Rattle.need.specs.Need.{chosen, dueOn}
 use Rattle.plan.specs.Fields.{intervalOf, firstOf, headerOf}
 use Rattle.plan.specs.Periods.{blocksOf, blockAt, isPeriod, dosesOf, doseIn}
+use Rattle.supply.specs.declared.place.Period.{Period}
 use Rattle.supply.specs.declared.place.Place.{Place}
 use Rattle.supply.specs.declared.today.Today.{Today}
 
@@ -47,15 +48,15 @@ needAt choice p b x =
 abbrev pub needOf : ℕ → List ℕ → ℕ → ℕ → ℕ
 needOf choice p b d = needAt choice p b (positionOf (headerOf (blockAt p b)) d)
 
--- t stands in the doses of its period, behind those of its position
-pub record Placed (choice : ℕ) (p : List ℕ) (t : Place) : Type 0 where
+-- s stands in the doses of the period t, behind those of its position
+pub record Placed (choice : ℕ) (p : List ℕ) (t : Period) (s : Place) : Type 0 where
   pub sorted : Sorted p (t .b)
   pub small : Small choice p (t .b)
   pub all : t .doses ≡ dosesOf p (t .b)
   pub interval-is : t .interval ≡ intervalOf (blockAt p (t .b))
-  pub some : 0 < t .position
-  pub behind : From p (t .b) (t .doses) (t .position + 1) (t .behind)
-  pub due-is : t .due ≡ needAt choice p (t .b) (t .position)
+  pub some : 0 < s .position
+  pub behind : From p (t .b) (t .doses) (s .position + 1) (s .behind)
+  pub due-is : s .due ≡ needAt choice p (t .b) (s .position)
 
 -- the position of the day behind one at position x, in rounds of k days; k is 0 where there are none
 abbrev pub positionBehind : ℕ → ℕ → ℕ
@@ -65,38 +66,59 @@ positionBehind k x = cond (eqb x k) 1 (x + 1)
 abbrev pub doseFrom : ℕ → ℕ → ℕ
 doseFrom x behind = cond (eqb x 1) 0 behind
 
--- r is where the period of t stands a day later
-pub record Moved (choice : ℕ) (p : List ℕ) (t r : Place) : Type 0 where
-  pub any-is : r .any ≡ t .any
-  pub block-is : r .b ≡ t .b
-  pub none : t .any ≡ false → r ≡ t
-  pub placed : t .any ≡ true → Placed choice p r
-  pub position-is : t .any ≡ true → r .position ≡ positionBehind (t .interval) (t .position)
+-- in the period t each day needs what the one ahead of it needs
+abbrev pub isStill : Period → Bool
+isStill t = not (t .any) || eqb (t .interval) 1
 
--- t is where day d stands in a period, or in none
-pub record Stands (choice : ℕ) (p : List ℕ) (d : ℕ) (t : Place) : Type 0 where
-  pub none : t .any ≡ false → t .due ≡ 0
-  pub placed : t .any ≡ true → Placed choice p t
-  pub position-is : t .any ≡ true → t .position ≡ positionOf (headerOf (blockAt p (t .b))) d
+-- r is where the day behind that of s stands in the period t
+pub record Moved (choice : ℕ) (p : List ℕ) (t : Period) (s r : Place) : Type 0 where
+  pub none : t .any ≡ false → r ≡ s
+  pub placed : t .any ≡ true → Placed choice p t r
+  pub position-is : t .any ≡ true → r .position ≡ positionBehind (t .interval) (s .position)
+
+-- the period t, which has begun by day d, is as the walk counts on
+pub record InPeriod (choice : ℕ) (p : List ℕ) (d : ℕ) (t : Period) : Type 0 where
+  pub sorted : Sorted p (t .b)
+  pub small : Small choice p (t .b)
+  pub all : t .doses ≡ dosesOf p (t .b)
+  pub interval-is : t .interval ≡ intervalOf (blockAt p (t .b))
+  pub began : firstOf (blockAt p (t .b)) ≤ d
+
+-- s is where day d stands in the period t, if there is one
+pub record Stands (choice : ℕ) (p : List ℕ) (d : ℕ) (t : Period) (s : Place) : Type 0 where
+  pub none : t .any ≡ false → s .due ≡ 0
+  pub placed : t .any ≡ true → Placed choice p t s
+  pub position-is : t .any ≡ true → s .position ≡ positionOf (headerOf (blockAt p (t .b))) d
   pub began : t .any ≡ true → firstOf (blockAt p (t .b)) ≤ d
 
--- t is where day d stands in the period at block b, or in none where there is no such block
-pub record PlacedAt (choice : ℕ) (p : List ℕ) (d b : ℕ) (t : Place) : Type 0 where
-  pub stands : Stands choice p d t
-  pub there : b < blocksOf p → (t .any ≡ true) × (t .b ≡ b)
+-- t is the period at block b, or none where there is no such block
+pub record IsAt (p : List ℕ) (b : ℕ) (t : Period) : Type 0 where
+  pub block : b < blocksOf p → (t .any ≡ true) × (t .b ≡ b)
+  pub doses-is : b < blocksOf p → t .doses ≡ dosesOf p b
+  pub interval-is : b < blocksOf p → t .interval ≡ intervalOf (blockAt p b)
   pub past : blocksOf p ≤ b → t .any ≡ false
 
--- what the period of a place needs on a day
-abbrev pub needIn : ℕ → List ℕ → Place → ℕ → ℕ
+-- what a period needs on a day, if there is one
+abbrev pub needIn : ℕ → List ℕ → Period → ℕ → ℕ
 needIn choice p t d = cond (t .any) (needOf choice p (t .b) d) 0
 
 -- t is where day d stands in its periods, and up to day `until` no other period has a day. What a period needs is its own: the other
 -- has no part in it
 pub record Known (choice : ℕ) (p : List ℕ) (d : ℕ) (t : Today) : Type 0 where
   pub reached : d ≤ t .until
-  pub first : Stands choice p d (t .first)
-  pub second : Stands choice p d (t .second)
+  pub still : t .still ≡ true → (isStill (t .first) ≡ true) × (isStill (t .second) ≡ true)
+  pub first : Stands choice p d (t .first) (t .in_first)
+  pub second : Stands choice p d (t .second) (t .in_second)
   pub sum : (e : ℕ) → d ≤ e → e ≤ t .until → dueOn choice p e ≡ needIn choice p (t .first) e + needIn choice p (t .second) e
+
+-- r is the day behind that of t, in the same periods
+pub record Behind (choice : ℕ) (p : List ℕ) (t r : Today) : Type 0 where
+  pub until-is : r .until ≡ t .until
+  pub still-is : r .still ≡ t .still
+  pub first-is : r .first ≡ t .first
+  pub second-is : r .second ≡ t .second
+  pub first : Moved choice p (t .first) (t .in_first) (r .in_first)
+  pub second : Moved choice p (t .second) (t .in_second) (r .in_second)
 
 -- the test answers on each day from d to u as it does on d
 abbrev pub Steady : (ℕ → Bool) → ℕ → ℕ → Type 0

@@ -1,10 +1,8 @@
 use mathlib.Core.Bool.{true}
-use mathlib.Core.Path.{_≡_, refl, sym, _∙_}
-use native.Mathlib.Omega.{arith}
+use mathlib.Core.Path.{_≡_, refl}
 use borrow.Author.Needs.{needs}
 use borrow.Author.Tests.{not-true, not-false}
 use Rattle.below.proofs.Tests.{true-not-false}
-use Rattle.supply.specs.code.Standing.{positionBehind}
 use Rattle.supply.proofs.Placing.{from-next, behind-some}
 use Rattle.supply.proofs.place.next_place.Statement.{statement}
 use Rattle.supply.proofs.place.next_place.Tie as tie
@@ -12,41 +10,27 @@ use Rattle.supply.proofs.place.next_place.Tie as tie
 returns : tie.Need-returns
 returns c =
     let f = not-true _ (c .if1 .taken) in
-    record { any-is = refl; block-is = refl; none = λ a. refl; placed = λ a. absurd (true-not-false a f); position-is = λ a. absurd (true-not-false a f) }
+    record { none = λ a. refl; placed = λ a. absurd (true-not-false a f); position-is = λ a. absurd (true-not-false a f) }
 
 position-behind-requires : tie.Need-position-behind-requires
 position-behind-requires c κs = c .before .before .before .pre .1 (not-false _ (c .if1 .left))
-
-returns-2 : tie.Need-returns-2
-returns-2 c =
-    let a = c .before .before .before .before .before .before in
-    record {
-      any-is = refl;
-      block-is = refl;
-      none = λ z. refl;
-      placed = λ z. a .pre .0 z;
-      position-is = λ z. sym (c .if2 .taken) ∙ c .before .before .position-behind .ensures;
-    }
 
 doses-from-requires : tie.Need-doses-from-requires
 doses-from-requires c κs = search needs
 
 due-at-requires : tie.Need-due-at-requires
 due-at-requires c κs =
-    let a = c .before .before .before .before .before .before .before in
-    let k = a .pre .0 (not-false _ (c .before .before .before .before .if1 .left)) in
-    let x = c .before .before .before .position-behind .ensures in
-    (k .sorted, (k .small, (k .all, rw (c .doses-from .ensures, x) (from-next (a .args .t .interval) (k .behind) (k .some)))))
+    let a = c .before .before .before .before .before in
+    let k = a .pre .0 (not-false _ (c .before .before .if1 .left)) in
+    (k .sorted, (k .small, (k .all, rw (c .doses-from .ensures, c .before .position-behind .ensures) (from-next (a .args .t .interval) (k .behind) (k .some)))))
 
-returns-3 : tie.Need-returns-3
-returns-3 c =
-    let a = c .before .before .before .before .before .before .before .before in
-    let t : a .args .t .any ≡ true = not-false _ (c .before .before .before .before .before .if1 .left) in
+returns-2 : tie.Need-returns-2
+returns-2 c =
+    let a = c .before .before .before .before .before .before in
+    let t : a .args .t .any ≡ true = not-false _ (c .before .before .before .if1 .left) in
     let k = a .pre .0 t in
-    let x = c .before .before .before .before .position-behind .ensures in
+    let x = c .before .before .position-behind .ensures in
     record {
-      any-is = sym t;
-      block-is = refl;
       none = λ z. absurd (true-not-false t z);
       placed =
           λ z.
@@ -55,7 +39,7 @@ returns-3 c =
             small = k .small;
             all = k .all;
             interval-is = k .interval-is;
-            some = rw x (behind-some (a .args .t .interval) (a .args .t .position));
+            some = rw x (behind-some (a .args .t .interval) (a .args .s .position));
             behind = c .due-at .ensures .1;
             due-is = c .due-at .ensures .0;
           };
@@ -65,10 +49,4 @@ returns-3 c =
 pub next-place-spec : {M : Type 1} → statement M
 next-place-spec =
     tie.close
-    (tie.spec
-    returns
-    position-behind-requires
-    returns-2
-    doses-from-requires
-    due-at-requires
-    returns-3)
+    (tie.spec returns position-behind-requires doses-from-requires due-at-requires returns-2)

@@ -1,6 +1,6 @@
 use native.Mathlib.Omega.{arith}
 use borrow.Author.Needs.{needs}
-use Rattle.supply.proofs.Standing.{known-on-day}
+use Rattle.supply.proofs.Standing.{known-on-day, found-in}
 use Rattle.supply.proofs.today.on_day.Statement.{statement}
 use Rattle.supply.proofs.today.on_day.Tie as tie
 
@@ -16,18 +16,31 @@ add-covering-from c = record { fits = omega (arith, c .covering-from .ensures .1
 covering-from-requires-2 : tie.Need-covering-from-requires-2
 covering-from-requires-2 c κs = (c .before .before .before .pre .few, omega (arith, c .covering-from .ensures .1 (omega arith)))
 
-place-at-requires : tie.Need-place-at-requires
-place-at-requires c κs = (c .before .before .before .before .pre, c .before .covering-from .ensures .0 .here)
+period-at-requires : tie.Need-period-at-requires
+period-at-requires c κs = search needs
 
-place-at-requires-2 : tie.Need-place-at-requires-2
-place-at-requires-2 c κs = (c .before .before .before .before .before .pre, c .before .covering-from2 .ensures .0 .here)
+period-at-requires-2 : tie.Need-period-at-requires-2
+period-at-requires-2 c κs = search needs
+
+is-still-requires : tie.Need-is-still-requires
+is-still-requires c κs = search needs
+
+is-still-requires-2 : tie.Need-is-still-requires-2
+is-still-requires-2 c κs = search needs
+
+place-on-requires : tie.Need-place-on-requires
+place-on-requires c κs = found-in _ _ (c .before .before .before .before .before .before .before .before .pre) (c .before .before .before .before .before .covering-from .ensures .0) (c .before .before .before .period-at .ensures)
+
+place-on-requires-2 : tie.Need-place-on-requires-2
+place-on-requires-2 c κs = found-in _ _ (c .before .before .before .before .before .before .before .before .before .pre) (c .before .before .before .before .before .covering-from2 .ensures .0) (c .before .before .before .period-at2 .ensures)
 
 returns : tie.Need-returns
 returns c =
-    let a = c .before .before .before .before .before .before in
-    known-on-day (a .args .choice) (a .args .plan .now) (a .pre) (c .before .before .before .before .periods-until .ensures .0) (c .before .before .before .before .periods-until .ensures .1)
-    (c .before .before .before .covering-from .ensures .0) (c .before .before .covering-from2 .ensures .0)
-    (c .before .place-at .ensures) (c .place-at2 .ensures)
+    let a = c .before .before .before .before .before .before .before .before .before .before in
+    let u = c .before .before .before .before .before .before .before .before .periods-until .ensures in
+    known-on-day (a .args .choice) (a .args .plan .now) (a .pre) (u .0) (u .1)
+    (c .before .before .before .before .before .before .before .covering-from .ensures .0) (c .before .before .before .before .before .before .covering-from2 .ensures .0)
+    (c .before .before .before .before .before .period-at .ensures) (c .before .before .before .before .period-at2 .ensures) (cc) (c .before .place-on .ensures) (c .place-on2 .ensures)
 
 pub on-day-spec : {M : Type 1} → statement M
 on-day-spec =
@@ -37,6 +50,10 @@ on-day-spec =
     covering-from-requires
     add-covering-from
     covering-from-requires-2
-    place-at-requires
-    place-at-requires-2
+    period-at-requires
+    period-at-requires-2
+    is-still-requires
+    is-still-requires-2
+    place-on-requires
+    place-on-requires-2
     returns)

@@ -1,10 +1,9 @@
-use mathlib.Core.Path.{_≡_}
 use borrow.Author.Needs.{needs}
 use Rattle.supply.proofs.walk.need_of.Statement.{statement}
 use Rattle.supply.proofs.walk.need_of.Tie as tie
 
 returns : tie.Need-returns
-returns c = rw (c .if1 .taken)
+returns c = search needs
 
 add-result : tie.Need-add-result
 add-result c = search needs

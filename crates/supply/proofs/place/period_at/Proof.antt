@@ -1,0 +1,41 @@
+use mathlib.Core.Path.{refl, _∙_}
+use native.Mathlib.Omega.{arith}
+use borrow.Author.Needs.{needs}
+use Rattle.supply.proofs.place.period_at.Statement.{statement}
+use Rattle.supply.proofs.place.period_at.Tie as tie
+
+doses-of-requires : tie.Need-doses-of-requires
+doses-of-requires c κs = search needs
+
+block-of-requires : tie.Need-block-of-requires
+block-of-requires c κs = search needs
+
+interval-of-requires : tie.Need-interval-of-requires
+interval-of-requires c κs = search needs
+
+cast-t11 : tie.Need-cast-t11
+cast-t11 c = search needs
+
+returns : tie.Need-returns
+returns c =
+    record {
+      block = λ l. (refl, refl);
+      doses-is = λ l. c .before .before .doses-of .ensures .0;
+      interval-is = λ l. cc;
+      past = λ l. absurd (omega (arith, c .before .before .before .if1 .taken));
+    }
+
+returns-2 : tie.Need-returns-2
+returns-2 c =
+    let e = c .if1 .left in
+    record {
+      block = λ l. absurd (omega (arith, e));
+      doses-is = λ l. absurd (omega (arith, e));
+      interval-is = λ l. absurd (omega (arith, e));
+      past = λ l. refl;
+    }
+
+pub period-at-spec : {M : Type 1} → statement M
+period-at-spec =
+    tie.close
+    (tie.spec doses-of-requires block-of-requires interval-of-requires cast-t11 returns returns-2)
