@@ -98,12 +98,17 @@ module _ (choice : ℕ) (p : List ℕ) (o : Orderly choice p) {d u b c : ℕ} (r
     no-second : blocksOf p ≤ c → (e : ℕ) → needIn choice p g e ≡ 0
     no-second m e = rw (y .past m)
 
-    pub known-on-day : {v : Bool} {i j : Place} → v ≡ (isStill f && isStill g) → Stands choice p d f i → Stands choice p d g j →
-        Known choice p d (record { until = u; still = v; first = f; second = g; in_first = i; in_second = j })
+    -- days need the same past this one only where both are still
+    kept : {v : ℕ} → v ≡ cond (isStill f && isStill g) u d → d < v → (isStill f && isStill g) ≡ true
+    kept q l = ⊎-elim (λ t. t) (λ (t : (isStill f && isStill g) ≡ false). absurd (let z = rw t at q in omega arith)) (bool-cases (isStill f && isStill g))
+
+    pub known-on-day : {v : ℕ} {i j : Place} → v ≡ cond (isStill f && isStill g) u d → Stands choice p d f i → Stands choice p d g j →
+        Known choice p d (record { until = u; same = v; first = f; second = g; in_first = i; in_second = j })
     known-on-day q m n =
         record {
           reached = r;
-          still = λ t. and-both _ _ (sym q ∙ t);
+          still = λ l. and-both _ _ (kept q l);
+          same = λ l. ⊎-elim (λ (t : (isStill f && isStill g) ≡ true). let z = rw t at q in omega arith) (λ (t : (isStill f && isStill g) ≡ false). let z = rw t at q in omega arith) (bool-cases (isStill f && isStill g));
           first = m;
           second = n;
           sum =
@@ -197,23 +202,24 @@ module _ {choice : ℕ} {p : List ℕ} {d : ℕ} {t : Today} (k : Known choice p
   known-on {r} m l =
       record {
         reached = omega (arith, m .until-is);
-        still = λ z. rw (m .first-is, m .second-is) (k .still (sym (m .still-is) ∙ z));
+        still = λ z. rw (m .first-is, m .second-is) (k .still (omega (arith, m .same-is)));
+        same = λ z. omega (arith, m .same-is, m .until-is, k .same (omega (arith, m .same-is)));
         first = rw (m .first-is) (stands-on (k .first) (m .first));
         second = rw (m .second-is) (stands-on (k .second) (m .second));
         sum = λ e h q. rw (m .first-is, m .second-is) (k .sum e (omega arith) (omega (arith, m .until-is)));
       }
 
   -- where its periods are still a day's places are those of the day ahead
-  pub known-stays : t .still ≡ true → d + 1 ≤ t .until → Known choice p (d + 1) t
-  known-stays z l =
-      let q = k .still z in
+  pub known-stays : d < t .same → Known choice p (d + 1) t
+  known-stays l =
+      let q = k .still l in
       known-on
       (record {
         until-is = refl;
-        still-is = refl;
+        same-is = refl;
         first-is = refl;
         second-is = refl;
         first = stands-still (k .first) (q .0);
         second = stands-still (k .second) (q .1);
       })
-      l
+      (omega (arith, k .same l))

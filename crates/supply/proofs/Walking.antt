@@ -6,8 +6,9 @@ use mathlib.Core.Logic.{⊎-elim}
 use mathlib.Core.Path.{_≡_, refl, sym, ap, _∙_}
 use native.Mathlib.Omega.{arith}
 use lib.Dec.{eqb}
+use borrow.Author.Tests.{le-leb, lt-leb}
 use Rattle.below.proofs.Tests.{bool-cases, true-not-false, le-or-lt}
-use Rattle.day.specs.Days.{lastNumber, openMark}
+use Rattle.day.specs.Days.{openMark}
 use Rattle.need.specs.Need.{dueOn, needOn}
 use Rattle.pause.specs.declared.Pause.{Pause}
 use Rattle.pause.specs.Pauses.{areOut, isPaused}
@@ -40,14 +41,12 @@ module _ (need : ℕ → ℕ) (pack : ℕ) where
         rw e (rw there at (walk-goes-on need (w .start) k (omega arith) (rw there h)))
 
     -- the day needs more than the rest: the walk is over
-    short : Covered w → w .day ≤ w .stop → w .rest < need (w .day) → w .reason ≡ 1 → lastingAt w ≡ lastingOf need (w .start) (w .stop) pack
-    short k l h e =
-        ap (λ (n : ℕ). record { days = w .day - w .start; last = cond (eqb (w .day - w .start) 0) openMark (w .day - 1); rest = w .rest; reason = n }) e ∙
-        lasting-short need (w .start) (w .stop) k last-is (omega arith) (rw there h)
+    short : Covered w → w .day ≤ w .stop → w .rest < need (w .day) → lastingAt w ≡ lastingOf need (w .start) (w .stop) pack
+    short k l h = rw (le-leb (w .day) (w .stop) l) (lasting-short need (w .start) (w .stop) k last-is (omega arith) (rw there h))
 
     -- the day lies behind the stop day: the walk is over
-    long : Covered w → w .stop < w .day → w .reason ≡ cond (eqb (w .stop) lastNumber) 3 2 → lastingAt w ≡ lastingOf need (w .start) (w .stop) pack
-    long k l e = lasting-long need (w .start) (w .stop) k last-is (omega arith) e
+    long : Covered w → w .stop < w .day → lastingAt w ≡ lastingOf need (w .start) (w .stop) pack
+    long k l = rw (lt-leb (w .day) (w .stop) l) (lasting-long need (w .start) (w .stop) k last-is (omega arith) refl)
 
 -- what is left of the walk: its days, and that it still goes
 abbrev pub left : Walk → ℕ
@@ -103,7 +102,7 @@ module _ (choice : ℕ) (p : List ℕ) (ps : List Pause) where
       abbrev fine : w₀ .refused ≡ false
       fine = unrefused (i .over) going
 
-      -- the day, the rest, the reason and whether it goes may change, and nothing else of a walk that is not refused
+      -- the day, the rest and whether it goes may change, and nothing else of a walk that is not refused
       moved : r .start ≤ r .day → (r .going ≡ true → Going choice p r) → Covered (needOn choice p ps) (w₀ .rest) r →
           (r .going ≡ false → lastingAt r ≡ lastingOf (needOn choice p ps) (r .start) (r .stop) (w₀ .rest)) → Inv w₀ r
       moved starts at covered done =
@@ -122,11 +121,11 @@ module _ (choice : ℕ) (p : List ℕ) (ps : List Pause) where
       -- the day needs more than the rest
       steps-short : w .rest < need → Inv w₀ r × (left r < left w)
       steps-short l =
-          let c : (r .going ≡ false) × (r .day ≡ w .day) × (r .rest ≡ w .rest) × (r .reason ≡ 1) = s .short (rw (need-is (w .day)) l) in
+          let c : (r .going ≡ false) × (r .day ≡ w .day) × (r .rest ≡ w .rest) = s .short (rw (need-is (w .day)) l) in
           let starts : r .start ≤ r .day = omega (arith, here .begun, s .start-is, c .1) in
           let within : r .day ≤ r .stop = omega (arith, here .within, s .stop-is, c .1) in
           let same : Covered (needOn choice p ps) (w₀ .rest) r = rw (s .start-is, s .stop-is, c .1, c .2) (i .covered going) in (
-            moved starts (λ g. absurd (true-not-false g (c .0))) same (λ g. short (needOn choice p ps) (w₀ .rest) r starts same within (rw (c .1, c .2) l) (c .3)),
+            moved starts (λ g. absurd (true-not-false g (c .0))) same (λ g. short (needOn choice p ps) (w₀ .rest) r starts same within (rw (c .1, c .2) l)),
             rw (c .0, going, c .1, s .stop-is) (omega arith),
           )
 
@@ -159,11 +158,10 @@ module _ (choice : ℕ) (p : List ℕ) (ps : List Pause) where
         -- the day was the stop day
         steps-over : w .stop ≤ w .day → Inv w₀ r × (left r < left w)
         steps-over m =
-            let c : (r .going ≡ false) × (r .reason ≡ cond (eqb (w .stop) lastNumber) 3 2) = s .over (rw (need-is (w .day)) l) m in
-            let why : r .reason ≡ cond (eqb (r .stop) lastNumber) 3 2 = rw (s .stop-is) (c .1) in
+            let c : r .going ≡ false = s .over (rw (need-is (w .day)) l) m in
             let past : r .stop < r .day = omega (arith, s .stop-is, taken .0) in (
-              moved starts (λ g. absurd (true-not-false g (c .0))) further (λ g. long (needOn choice p ps) (w₀ .rest) r starts further past why),
-              rw (c .0, going, taken .0, s .stop-is) (omega (arith, here .within)),
+              moved starts (λ g. absurd (true-not-false g c)) further (λ g. long (needOn choice p ps) (w₀ .rest) r starts further past),
+              rw (c, going, taken .0, s .stop-is) (omega (arith, here .within)),
             )
 
       pub steps : Inv w₀ r × (left r < left w)

@@ -53,10 +53,9 @@ fn refused(refusal: Refusal) -> Walk
         stop: 0,
         day: 0,
         rest: 0,
-        reason: 0,
         today: Today {
             until: 0,
-            still: true,
+            same: 0,
             first: NO_PERIOD,
             second: NO_PERIOD,
             in_first: NO_PLACE,
@@ -88,7 +87,6 @@ pub(crate) fn begin(plan: &[u8], start: u32, pack: u64, choice: u32, out: bool) 
         stop: stop.day,
         day: start,
         rest: pack,
-        reason: 0,
         today: on_day(plan, choice, start),
     }
 }

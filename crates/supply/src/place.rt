@@ -9,7 +9,8 @@ use plan::doses_of;
 use plan::interval_of;
 ghost use mathlib.Core.Path.{_≡_};
 ghost use mathlib.Core.Bool.{true};
-ghost use Prim.Native.Nat.{_≤_};
+ghost use Prim.Native.Nat.{_≤_, _<_};
+ghost use Rattle.day.specs.Days.{lastNumber};
 ghost use Rattle.supply.specs.code.Standing.{positionBehind, doseFrom, isStill, Placed, Moved, Stands, IsAt, InPeriod};
 
 // The period at block b, in rounds of `interval` days, has `doses` doses. Or there is none.
@@ -17,14 +18,14 @@ pub(crate) struct Period {
     pub any: bool,
     pub b: u8,
     pub doses: u16,
-    pub interval: u64,
+    pub interval: u32,
 }
 
 // A day has a position in a period. The doses of that position need `due`, and dose `behind` is the one behind them.
 pub(crate) struct Place {
-    pub position: u64,
-    pub behind: u16,
     pub due: u64,
+    pub position: u32,
+    pub behind: u32,
 }
 
 // No period, and a day's place in it: nothing is due.
@@ -36,9 +37,9 @@ pub(crate) const NO_PERIOD: Period = Period {
 };
 
 pub(crate) const NO_PLACE: Place = Place {
+    due: 0,
     position: 0,
     behind: 0,
-    due: 0,
 };
 
 // The period at block b, if there is such a block.
@@ -50,7 +51,7 @@ pub(crate) fn period_at(plan: &[u8], b: u8) -> Period
             any: true,
             b,
             doses: doses_of(plan, b),
-            interval: interval_of(block_of(plan, b as u16)) as u64,
+            interval: interval_of(block_of(plan, b as u16)) as u32,
         };
     }
     NO_PERIOD
@@ -65,7 +66,7 @@ pub(crate) fn is_still(t: Period) -> bool
 
 // The day's place in the period.
 pub(crate) fn place_on(plan: &[u8], choice: u32, day: u32, t: Period) -> Place
-    requires { ⌜ (t .any ≡ true → InPeriod choice (now plan) day t) ⌝ }
+    requires { ⌜ (t .any ≡ true → InPeriod choice (now plan) day t) × (day ≤ lastNumber) ⌝ }
     ensures { λ r. ⌜ Stands choice (now (plan .entry)) day t r ⌝ }
 {
     if !t.any {
@@ -75,15 +76,15 @@ pub(crate) fn place_on(plan: &[u8], choice: u32, day: u32, t: Period) -> Place
     let from = first_from(plan, t.b, t.doses, lowest_at(position));
     let due = due_at(plan, choice, t.b, t.doses, position, from);
     Place {
-        position,
-        behind: due.behind,
         due: due.need,
+        position: position as u32,
+        behind: due.behind as u32,
     }
 }
 
 // The position of the day behind: it rises, and begins again where a round ends. A remainder would take longer.
-fn position_behind(interval: u64, position: u64) -> u64
-    requires { ⌜ position ≤ 4294967296 ⌝ }
+fn position_behind(interval: u32, position: u32) -> u32
+    requires { ⌜ position < 4294967295 ⌝ }
     ensures { λ r. ⌜ r ≡ positionBehind interval position ⌝ }
 {
     if position == interval {
@@ -93,25 +94,27 @@ fn position_behind(interval: u64, position: u64) -> u64
 }
 
 // The dose at which those of the position behind t's begin: where t's end, or the first where a round begins.
-fn doses_from(position: u64, behind: u16) -> u16
+fn doses_from(position: u32, behind: u32) -> u16
+    requires { ⌜ behind < 65536 ⌝ }
     ensures { λ r. ⌜ r ≡ doseFrom position behind ⌝ }
 {
-    if position == 1 { 0 } else { behind }
+    if position == 1 { 0 } else { behind as u16 }
 }
 
 // The place of the day behind that of s, in the period t.
 pub(crate) fn next_place(plan: &[u8], choice: u32, t: Period, s: Place) -> Place
-    requires { ⌜ (t .any ≡ true → Placed choice (now plan) t s) × (t .any ≡ true → s .position ≤ 4294967296) ⌝ }
+    requires { ⌜ (t .any ≡ true → Placed choice (now plan) t s) × (t .any ≡ true → s .position < 4294967295) ⌝ }
     ensures { λ r. ⌜ Moved choice (now (plan .entry)) t s r ⌝ }
 {
     if !t.any {
         return s;
     }
     let position = position_behind(t.interval, s.position);
-    let due = due_at(plan, choice, t.b, t.doses, position, doses_from(position, s.behind));
+    let from = doses_from(position, s.behind);
+    let due = due_at(plan, choice, t.b, t.doses, position as u64, from);
     Place {
-        position,
-        behind: due.behind,
         due: due.need,
+        position,
+        behind: due.behind as u32,
     }
 }

@@ -9,16 +9,17 @@ use crate::place::place_on;
 use crate::until::periods_until;
 use doses::is_covering;
 ghost use mathlib.Core.Path.{_≡_};
-ghost use mathlib.Core.Bool.{true};
-ghost use Prim.Native.Nat.{_≤_};
+ghost use mathlib.Core.Bool.{true, cond};
+ghost use Prim.Native.Nat.{_≤_, _<_};
+ghost use Rattle.day.specs.Days.{lastNumber};
 ghost use Rattle.plan.specs.Periods.{blocksOf};
 ghost use Rattle.supply.specs.code.Standing.{Orderly, Placed, Known, Behind, Next};
 
-// The day stands in the periods `first` and `second`, at a place in each. Up to day `until` the days are in the same periods; where those
-// are `still`, each of them needs the same.
+// The day stands in the periods `first` and `second`, at a place in each. Up to day `until` the days are in the same periods, and up to
+// day `same` each needs what the one ahead of it needs.
 pub(crate) struct Today {
     pub until: u32,
-    pub still: bool,
+    pub same: u32,
     pub first: Period,
     pub second: Period,
     pub in_first: Place,
@@ -41,9 +42,16 @@ fn covering_from(plan: &[u8], day: u32, lo: u8) -> u8
     b
 }
 
+// Up to which day the days need the same, if the periods that they are in up to day `until` are still.
+fn same_until(still: bool, day: u32, until: u32) -> u32
+    ensures { λ r. ⌜ r ≡ cond still until day ⌝ }
+{
+    if still { until } else { day }
+}
+
 // A day's periods and places, worked out from the plan.
 pub(crate) fn on_day(plan: &[u8], choice: u32, day: u32) -> Today
-    requires { ⌜ Orderly choice (now plan) ⌝ }
+    requires { ⌜ Orderly choice (now plan) × (day ≤ lastNumber) ⌝ }
     ensures { λ r. ⌜ Known choice (now (plan .entry)) day r ⌝ }
 {
     let until = periods_until(plan, day);
@@ -53,7 +61,7 @@ pub(crate) fn on_day(plan: &[u8], choice: u32, day: u32) -> Today
     let second = period_at(plan, c);
     Today {
         until,
-        still: is_still(first) & is_still(second),
+        same: same_until(is_still(first) & is_still(second), day, until),
         first,
         second,
         in_first: place_on(plan, choice, day, first),
@@ -63,8 +71,8 @@ pub(crate) fn on_day(plan: &[u8], choice: u32, day: u32) -> Today
 
 // The day behind that of t, while the periods stay.
 pub(crate) fn next_day(plan: &[u8], choice: u32, t: Today) -> Today
-    requires { ⌜ (t .first .any ≡ true → Placed choice (now plan) (t .first) (t .in_first)) × (t .first .any ≡ true → t .in_first .position ≤ 4294967296) ⌝ }
-    requires { ⌜ (t .second .any ≡ true → Placed choice (now plan) (t .second) (t .in_second)) × (t .second .any ≡ true → t .in_second .position ≤ 4294967296) ⌝ }
+    requires { ⌜ (t .first .any ≡ true → Placed choice (now plan) (t .first) (t .in_first)) × (t .first .any ≡ true → t .in_first .position < 4294967295) ⌝ }
+    requires { ⌜ (t .second .any ≡ true → Placed choice (now plan) (t .second) (t .in_second)) × (t .second .any ≡ true → t .in_second .position < 4294967295) ⌝ }
     ensures { λ r. ⌜ Behind choice (now (plan .entry)) t r ⌝ }
 {
     let mut r = t;

@@ -8,15 +8,15 @@ use day::Day;
 use refusal::Refusal;
 ghost use mathlib.Core.Path.{_≡_};
 ghost use Prim.Native.Nat.{_+_, _-_, _≤_, _<_};
-ghost use mathlib.Core.Bool.{false, cond, _&&_};
-ghost use lib.Dec.{eqb, ltb};
+ghost use mathlib.Core.Bool.{false, cond};
+ghost use lib.Dec.{eqb};
 ghost use Rattle.day.specs.Days.{lastNumber, openMark};
 ghost use Rattle.need.specs.Need.{dueOn};
 ghost use Rattle.supply.specs.code.Standing.{Orderly, Known};
-ghost use Rattle.supply.specs.code.Walking.{Going, Stepped, endedOf};
+ghost use Rattle.supply.specs.code.Walking.{Going, Stepped, reasonAt, endedOf};
 
-// The walk stands on `day`, with a rest, and goes on as long as `going`. `reason` says why it ended; where supply is refused it never
-// goes.
+// The walk stands on `day`, with a rest, and goes on as long as `going`; where supply is refused it never goes. It is handed on day by
+// day: no field is wider than it has to be, and none leaves a gap, so that the compiler keeps them apart in registers.
 pub(crate) struct Walk {
     pub refused: bool,
     pub refusal: Refusal,
@@ -25,7 +25,6 @@ pub(crate) struct Walk {
     pub stop: u32,
     pub day: u32,
     pub rest: u64,
-    pub reason: u8,
     pub today: Today,
 }
 
@@ -42,10 +41,13 @@ pub(crate) fn day_of(w: Walk) -> u32
     w.day
 }
 
-// Why the walk ended on the stop day.
-fn reason_at(stop: u32) -> u8
-    ensures { λ r. ⌜ r ≡ cond (eqb stop lastNumber) 3 2 ⌝ }
+// Why the walk ended: the day needs more than the rest, or it lies behind the stop day.
+fn reason_at(day: u32, stop: u32) -> u8
+    ensures { λ r. ⌜ r ≡ reasonAt day stop ⌝ }
 {
+    if day <= stop {
+        return 1;
+    }
     if stop == Day::LAST.number { 3 } else { 2 }
 }
 
@@ -74,13 +76,6 @@ fn today_at(plan: &[u8], choice: u32, day: u32, t: Today) -> Today
     next_day(plan, choice, t)
 }
 
-// Does the day behind this one need the same, in the same periods?
-fn is_steady(t: Today, day: u32) -> bool
-    ensures { λ r. ⌜ r ≡ (t .still && ltb day (t .until)) ⌝ }
-{
-    t.still & (day < t.until)
-}
-
 // The walk after the day that it stands on.
 pub(crate) fn next(plan: &[u8], choice: u32, w: Walk, paused: bool) -> Walk
     requires { ⌜ Going choice (now plan) w ⌝ }
@@ -90,20 +85,19 @@ pub(crate) fn next(plan: &[u8], choice: u32, w: Walk, paused: bool) -> Walk
     let need = need_of(w.today, paused);
     if w.rest < need {
         r.going = false;
-        r.reason = 1;
         return r;
     }
     r.rest = w.rest - need;
     r.day = w.day + 1;
     if w.day == w.stop {
         r.going = false;
-        r.reason = reason_at(w.stop);
         return r;
     }
-    if is_steady(w.today, w.day) {
+    let t = w.today;
+    if w.day < t.same {
         return r;
     }
-    r.today = today_at(plan, choice, w.day + 1, w.today);
+    r.today = today_at(plan, choice, w.day + 1, t);
     r
 }
 
@@ -131,6 +125,6 @@ pub(crate) fn ended(w: Walk) -> Supply
         days: w.day - w.start,
         last: last_of_days(w.start, w.day),
         rest: w.rest,
-        reason: w.reason,
+        reason: reason_at(w.day, w.stop),
     })
 }

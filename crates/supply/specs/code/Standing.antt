@@ -106,7 +106,8 @@ needIn choice p t d = cond (t .any) (needOf choice p (t .b) d) 0
 -- has no part in it
 pub record Known (choice : ℕ) (p : List ℕ) (d : ℕ) (t : Today) : Type 0 where
   pub reached : d ≤ t .until
-  pub still : t .still ≡ true → (isStill (t .first) ≡ true) × (isStill (t .second) ≡ true)
+  pub still : d < t .same → (isStill (t .first) ≡ true) × (isStill (t .second) ≡ true)
+  pub same : d < t .same → t .same ≤ t .until
   pub first : Stands choice p d (t .first) (t .in_first)
   pub second : Stands choice p d (t .second) (t .in_second)
   pub sum : (e : ℕ) → d ≤ e → e ≤ t .until → dueOn choice p e ≡ needIn choice p (t .first) e + needIn choice p (t .second) e
@@ -114,7 +115,7 @@ pub record Known (choice : ℕ) (p : List ℕ) (d : ℕ) (t : Today) : Type 0 wh
 -- r is the day behind that of t, in the same periods
 pub record Behind (choice : ℕ) (p : List ℕ) (t r : Today) : Type 0 where
   pub until-is : r .until ≡ t .until
-  pub still-is : r .still ≡ t .still
+  pub same-is : r .same ≡ t .same
   pub first-is : r .first ≡ t .first
   pub second-is : r .second ≡ t .second
   pub first : Moved choice p (t .first) (t .in_first) (r .in_first)

@@ -3,7 +3,7 @@ use Prim.Native.Nat.{ℕ, _+_, _-_, _≤_, _<_}
 use mathlib.Core.Path.{_≡_}
 use mathlib.Core.Bool.{Bool, true, false, cond}
 use mathlib.Core.List.{List}
-use lib.Dec.{eqb}
+use lib.Dec.{eqb, leb}
 use Rattle.day.specs.Days.{lastNumber, openMark}
 use Rattle.need.specs.Need.{dueOn, needOn, stopDay}
 use Rattle.pause.specs.declared.Pause.{Pause}
@@ -43,10 +43,14 @@ pub record Stepped (choice : ℕ) (p : List ℕ) (paused : Bool) (w r : Walk) : 
   pub refusal-is : r .refusal ≡ w .refusal
   pub start-is : r .start ≡ w .start
   pub stop-is : r .stop ≡ w .stop
-  pub short : w .rest < cond paused 0 (dueOn choice p (w .day)) → (r .going ≡ false) × (r .day ≡ w .day) × (r .rest ≡ w .rest) × (r .reason ≡ 1)
+  pub short : w .rest < cond paused 0 (dueOn choice p (w .day)) → (r .going ≡ false) × (r .day ≡ w .day) × (r .rest ≡ w .rest)
   pub more : cond paused 0 (dueOn choice p (w .day)) ≤ w .rest → (r .day ≡ w .day + 1) × (r .rest ≡ w .rest - cond paused 0 (dueOn choice p (w .day)))
   pub goes : cond paused 0 (dueOn choice p (w .day)) ≤ w .rest → w .day < w .stop → (r .going ≡ true) × Known choice p (w .day + 1) (r .today)
-  pub over : cond paused 0 (dueOn choice p (w .day)) ≤ w .rest → w .stop ≤ w .day → (r .going ≡ false) × (r .reason ≡ cond (eqb (w .stop) lastNumber) 3 2)
+  pub over : cond paused 0 (dueOn choice p (w .day)) ≤ w .rest → w .stop ≤ w .day → r .going ≡ false
+
+-- why it ended: short of the stop day's end, or behind it
+abbrev pub reasonAt : ℕ → ℕ → ℕ
+reasonAt day stop = cond (leb day stop) 1 (cond (eqb stop lastNumber) 3 2)
 
 -- what the walk says when it is over
 abbrev pub lastingAt : Walk → Lasting
@@ -55,7 +59,7 @@ lastingAt w =
       days = w .day - w .start;
       last = cond (eqb (w .day - w .start) 0) openMark (w .day - 1);
       rest = w .rest;
-      reason = w .reason;
+      reason = reasonAt (w .day) (w .stop);
     }
 
 -- r is where the walk w ends

@@ -2,6 +2,7 @@ use mathlib.Core.Path.{_≡_, refl, sym, ap, _∙_}
 use borrow.Author.Needs.{needs}
 use Rattle.verdict.specs.Verdict.{refusalOf}
 use Rattle.supply.proofs.Accepted.{orderly}
+use Rattle.supply.proofs.Refusing.{unrefused}
 use Rattle.supply.proofs.Beginning.{begun-broken, begun-refused, begun-going, stop-any, stop-last}
 use Rattle.verdict.proofs.Exactly.{accepted-only}
 use Rattle.supply.proofs.begin.begin.Statement.{statement}
@@ -55,7 +56,11 @@ alone-requires-2 : tie.Need-alone-requires-2
 alone-requires-2 c κs = search needs
 
 on-day-requires : tie.Need-on-day-requires
-on-day-requires c κs = orderly _ (accepted-only _ (sym (c .before .before .before .before .before .before .before .verdict-with-classes .ensures .0) ∙ c .before .before .before .before .before .enum-told .given .1)) _
+on-day-requires c κs =
+    let a = c .before .before .before .before .before .before .before .before .before .args in
+    let v = sym (c .before .before .before .before .before .before .before .verdict-with-classes .ensures .0) ∙ c .before .before .before .before .before .enum-told .given .1 in
+    let u = unrefused (a .start) (a .pack) (a .choice) (a .out) _ _ (sym (c .before .before .refused-by .ensures) ∙ c .before .if1 .left) in
+    (orderly _ (accepted-only _ v) _, u .start-in)
 
 returns-3 : tie.Need-returns-3
 returns-3 c =

@@ -1,12 +1,13 @@
 use mathlib.Core.Bool.{true}
 use mathlib.Core.Path.{_≡_, refl}
+use native.Mathlib.Omega.{arith}
 use borrow.Author.Needs.{needs}
 use borrow.Author.Tests.{not-true, not-false}
 use Rattle.below.proofs.Tests.{true-not-false}
 use Rattle.doses.specs.Doses.{positionOf}
 use Rattle.plan.specs.Fields.{headerOf}
 use Rattle.plan.specs.Periods.{blockAt}
-use Rattle.supply.proofs.Placing.{position-some}
+use Rattle.supply.proofs.Placing.{position-some, position-small}
 use Rattle.supply.proofs.place.place_on.Statement.{statement}
 use Rattle.supply.proofs.place.place_on.Tie as tie
 
@@ -34,22 +35,31 @@ lowest-at-requires c κs = search needs
 
 first-from-requires : tie.Need-first-from-requires
 first-from-requires c κs =
-    let k = c .before .before .before .before .before .before .before .pre (not-false _ (c .before .before .before .before .if1 .left)) in
+    let k = c .before .before .before .before .before .before .before .pre .0 (not-false _ (c .before .before .before .before .if1 .left)) in
     (k .sorted, k .all)
 
 due-at-requires : tie.Need-due-at-requires
 due-at-requires c κs =
-    let k = c .before .before .before .before .before .before .before .before .pre (not-false _ (c .before .before .before .before .before .if1 .left)) in
+    let k = c .before .before .before .before .before .before .before .before .pre .0 (not-false _ (c .before .before .before .before .before .if1 .left)) in
     let e = c .before .lowest-at .ensures in
     (k .sorted, (k .small, (k .all, rw e at (c .first-from .ensures))))
 
+cast-t12 : tie.Need-cast-t12
+cast-t12 c =
+    let a = c .before .before .before .before .before .before .before .before .before in
+    let x : c .before .before .before .position-of .result ≡ positionOf (headerOf (blockAt (a .args .plan .now) (a .args .t .b))) (a .args .day) = cc in
+    record { fits = omega (arith, a .pre .1, position-small (blockAt (a .args .plan .now) (a .args .t .b)) (a .args .day)) }
+
+cast-t13 : tie.Need-cast-t13
+cast-t13 c = search needs
+
 returns-2 : tie.Need-returns-2
 returns-2 c =
-    let a = c .before .before .before .before .before .before .before .before .before in
-    let t : a .args .t .any ≡ true = not-false _ (c .before .before .before .before .before .before .if1 .left) in
-    let k = a .pre t in
+    let a = c .before .before .before .before .before .before .before .before .before .before in
+    let t : a .args .t .any ≡ true = not-false _ (c .before .before .before .before .before .before .before .if1 .left) in
+    let k = a .pre .0 t in
     let r = blockAt (a .args .plan .now) (a .args .t .b) in
-    let x : c .before .before .before .position-of .result ≡ positionOf (headerOf r) (a .args .day) = cc in
+    let x : c .before .before .before .before .position-of .result ≡ positionOf (headerOf r) (a .args .day) = cc in
     record {
       none = λ z. absurd (true-not-false t z);
       placed =
@@ -60,8 +70,8 @@ returns-2 c =
             all = k .all;
             interval-is = k .interval-is;
             some = rw x (position-some r (a .args .day));
-            behind = c .due-at .ensures .1;
-            due-is = c .due-at .ensures .0;
+            behind = c .before .due-at .ensures .1;
+            due-is = c .before .due-at .ensures .0;
           };
       position-is = λ z. x;
       began = λ z. k .began;
@@ -78,4 +88,6 @@ place-on-spec =
     lowest-at-requires
     first-from-requires
     due-at-requires
+    cast-t12
+    cast-t13
     returns-2)

@@ -14,7 +14,7 @@ add-covering-from : tie.Need-add-covering-from
 add-covering-from c = record { fits = omega (arith, c .covering-from .ensures .1 (omega arith)) }
 
 covering-from-requires-2 : tie.Need-covering-from-requires-2
-covering-from-requires-2 c κs = (c .before .before .before .pre .few, omega (arith, c .covering-from .ensures .1 (omega arith)))
+covering-from-requires-2 c κs = (c .before .before .before .pre .0 .few, omega (arith, c .covering-from .ensures .1 (omega arith)))
 
 period-at-requires : tie.Need-period-at-requires
 period-at-requires c κs = search needs
@@ -28,19 +28,22 @@ is-still-requires c κs = search needs
 is-still-requires-2 : tie.Need-is-still-requires-2
 is-still-requires-2 c κs = search needs
 
+same-until-requires : tie.Need-same-until-requires
+same-until-requires c κs = search needs
+
 place-on-requires : tie.Need-place-on-requires
-place-on-requires c κs = found-in _ _ (c .before .before .before .before .before .before .before .before .pre) (c .before .before .before .before .before .covering-from .ensures .0) (c .before .before .before .period-at .ensures)
+place-on-requires c κs = (found-in _ _ (c .before .before .before .before .before .before .before .before .before .pre .0) (c .before .before .before .before .before .before .covering-from .ensures .0) (c .before .before .before .before .period-at .ensures), c .before .before .before .before .before .before .before .before .before .pre .1)
 
 place-on-requires-2 : tie.Need-place-on-requires-2
-place-on-requires-2 c κs = found-in _ _ (c .before .before .before .before .before .before .before .before .before .pre) (c .before .before .before .before .before .covering-from2 .ensures .0) (c .before .before .before .period-at2 .ensures)
+place-on-requires-2 c κs = (found-in _ _ (c .before .before .before .before .before .before .before .before .before .before .pre .0) (c .before .before .before .before .before .before .covering-from2 .ensures .0) (c .before .before .before .before .period-at2 .ensures), c .before .before .before .before .before .before .before .before .before .before .pre .1)
 
 returns : tie.Need-returns
 returns c =
-    let a = c .before .before .before .before .before .before .before .before .before .before in
-    let u = c .before .before .before .before .before .before .before .before .periods-until .ensures in
-    known-on-day (a .args .choice) (a .args .plan .now) (a .pre) (u .0) (u .1)
-    (c .before .before .before .before .before .before .before .covering-from .ensures .0) (c .before .before .before .before .before .before .covering-from2 .ensures .0)
-    (c .before .before .before .before .before .period-at .ensures) (c .before .before .before .before .period-at2 .ensures) (cc) (c .before .place-on .ensures) (c .place-on2 .ensures)
+    let a = c .before .before .before .before .before .before .before .before .before .before .before in
+    let u = c .before .before .before .before .before .before .before .before .before .periods-until .ensures in
+    known-on-day (a .args .choice) (a .args .plan .now) (a .pre .0) (u .0) (u .1)
+    (c .before .before .before .before .before .before .before .before .covering-from .ensures .0) (c .before .before .before .before .before .before .before .covering-from2 .ensures .0)
+    (c .before .before .before .before .before .before .period-at .ensures) (c .before .before .before .before .before .period-at2 .ensures) (cc) (c .before .place-on .ensures) (c .place-on2 .ensures)
 
 pub on-day-spec : {M : Type 1} → statement M
 on-day-spec =
@@ -54,6 +57,7 @@ on-day-spec =
     period-at-requires-2
     is-still-requires
     is-still-requires-2
+    same-until-requires
     place-on-requires
     place-on-requires-2
     returns)

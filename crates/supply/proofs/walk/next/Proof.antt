@@ -1,13 +1,10 @@
 use Prim.Native.Nat.{ℕ, _+_, _-_, _≤_, _<_}
 use mathlib.Core.Bool.{cond}
 use mathlib.Core.Logic.{⊎-elim}
-use mathlib.Core.Path.{_≡_, refl, sym, ap, _∙_}
+use mathlib.Core.Path.{_≡_, refl, ap, _∙_}
 use native.Mathlib.Nat.{eq-or-lt-of-le}
 use native.Mathlib.Omega.{arith}
-use lib.Dec.{ltb}
 use borrow.Author.Needs.{needs}
-use borrow.Author.Tests.{ltb-true}
-use Rattle.below.proofs.Tests.{and-both}
 use Rattle.need.specs.Need.{dueOn}
 use Rattle.supply.proofs.Standing.{known-due, known-small, known-stays}
 use Rattle.supply.proofs.walk.next.Statement.{statement}
@@ -29,7 +26,7 @@ returns c =
       refusal-is = refl;
       start-is = refl;
       stop-is = refl;
-      short = λ h. (refl, refl, refl, refl);
+      short = λ h. (refl, refl, refl);
       more = λ h. absurd (omega (arith, e, s));
       goes = λ h. absurd (omega (arith, e, s));
       over = λ h. absurd (omega (arith, e, s));
@@ -38,15 +35,12 @@ returns c =
 add-r : tie.Need-add-r
 add-r c = search needs
 
-reason-at-requires : tie.Need-reason-at-requires
-reason-at-requires c κs = search needs
-
 returns-2 : tie.Need-returns-2
 returns-2 c =
-    let a = c .before .before .before .before .before .before .before .before .before in
-    let e = c .before .before .before .before .before .before .before .need-of .ensures ∙ ap (cond (a .args .paused) 0) (known-due (a .pre .known)) in
-    let s = c .before .before .before .before .before .if1 .left in
-    let q = c .before .if2 .taken in
+    let a = c .before .before .before .before .before .before .before .before in
+    let e = c .before .before .before .before .before .before .need-of .ensures ∙ ap (cond (a .args .paused) 0) (known-due (a .pre .known)) in
+    let s = c .before .before .before .before .if1 .left in
+    let q = c .if2 .taken in
     record {
       refused-is = refl;
       refusal-is = refl;
@@ -55,20 +49,15 @@ returns-2 c =
       short = λ h. absurd (omega (arith, e, s));
       more = λ h. (refl, omega (arith, e));
       goes = λ h l. absurd (omega (arith, q));
-      over = λ h l. (refl, c .reason-at .ensures);
+      over = λ h l. refl;
     }
-
-is-steady-requires : tie.Need-is-steady-requires
-is-steady-requires c κs = search needs
 
 returns-3 : tie.Need-returns-3
 returns-3 c =
-    let a = c .before .before .before .before .before .before .before .before .before .before in
-    let e = c .before .before .before .before .before .before .before .before .need-of .ensures ∙ ap (cond (a .args .paused) 0) (known-due (a .pre .known)) in
-    let s = c .before .before .before .before .before .before .if1 .left in
-    let q = c .before .before .if2 .left in
-    let t = a .args .w .today in
-    let k = and-both (t .still) (ltb (a .args .w .day) (t .until)) (sym (c .before .is-steady .ensures) ∙ c .if3 .taken) in
+    let a = c .before .before .before .before .before .before .before .before .before .before .before .before in
+    let e = c .before .before .before .before .before .before .before .before .before .before .need-of .ensures ∙ ap (cond (a .args .paused) 0) (known-due (a .pre .known)) in
+    let s = c .before .before .before .before .before .before .before .before .if1 .left in
+    let q = c .before .before .before .before .if2 .left in
     record {
       refused-is = refl;
       refusal-is = refl;
@@ -76,27 +65,27 @@ returns-3 c =
       stop-is = refl;
       short = λ h. absurd (omega (arith, e, s));
       more = λ h. (refl, omega (arith, e));
-      goes = λ h l. (a .pre .on, known-stays (a .pre .known) (k .0) (omega (arith, ltb-true (a .args .w .day) (t .until) (k .1))));
+      goes = λ h l. (a .pre .on, known-stays (a .pre .known) (c .if3 .taken));
       over = λ h l. absurd (q (omega (arith, a .pre .within)));
     }
 
 add-today-at : tie.Need-add-today-at
-add-today-at c = search needs
+add-today-at c = record { fits = omega (arith, c .before .before .before .before .before .before .before .before .before .before .before .before .before .pre .within, c .before .before .before .before .before .before .before .before .before .before .before .before .before .pre .dated) }
 
 today-at-requires : tie.Need-today-at-requires
 today-at-requires c κs =
-    let a = c .before .before .before .before .before .before .before .before .before .before .before in
+    let a = c .before .before .before .before .before .before .before .before .before .before .before .before .before in
     let g = a .pre in
     let e : a .args .w .day + 1 - 1 ≡ a .args .w .day = omega arith in
-    let n : a .args .w .day < a .args .w .stop = below-stop (g .within) (c .before .before .before .if2 .left) in
+    let n : a .args .w .day < a .args .w .stop = below-stop (g .within) (c .before .before .before .before .before .if2 .left) in
     (g .orderly, (omega arith, omega (arith, g .dated), rw e (g .known)))
 
 returns-4 : tie.Need-returns-4
 returns-4 c =
-    let a = c .before .before .before .before .before .before .before .before .before .before .before .before in
-    let e = c .before .before .before .before .before .before .before .before .before .before .need-of .ensures ∙ ap (cond (a .args .paused) 0) (known-due (a .pre .known)) in
-    let s = c .before .before .before .before .before .before .before .before .if1 .left in
-    let q = c .before .before .before .before .if2 .left in
+    let a = c .before .before .before .before .before .before .before .before .before .before .before .before .before .before in
+    let e = c .before .before .before .before .before .before .before .before .before .before .before .before .need-of .ensures ∙ ap (cond (a .args .paused) 0) (known-due (a .pre .known)) in
+    let s = c .before .before .before .before .before .before .before .before .before .before .if1 .left in
+    let q = c .before .before .before .before .before .before .if2 .left in
     record {
       refused-is = refl;
       refusal-is = refl;
@@ -115,9 +104,7 @@ next-spec =
     need-of-requires
     returns
     add-r
-    reason-at-requires
     returns-2
-    is-steady-requires
     returns-3
     add-today-at
     today-at-requires

@@ -7,7 +7,7 @@ use Rattle.supply.proofs.walk.today_at.Statement.{statement}
 use Rattle.supply.proofs.walk.today_at.Tie as tie
 
 on-day-requires : tie.Need-on-day-requires
-on-day-requires c κs = search needs
+on-day-requires c κs = (c .before .before .before .pre .0, c .before .before .before .pre .1 .1)
 
 returns : tie.Need-returns
 returns c = search needs
