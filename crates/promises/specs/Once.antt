@@ -1,6 +1,7 @@
 -- Document 01, "How much a contract says": "Prove that two results allowed by it are equal". Nearly every contract says r ≡ ..; here
 -- stand those that say the result another way. docs/CONTRACTS.md has a row for each public function.
 use Prim.Native.Nat.{ℕ}
+use mathlib.Core.Bool.{Bool}
 use mathlib.Core.List.{List}
 use mathlib.Core.Path.{_≡_}
 use Rattle.block.specs.declared.Longs.{Longs}
@@ -8,6 +9,7 @@ use Rattle.day.specs.Days.{Shows}
 use Rattle.day.specs.declared.Date.{Date}
 use Rattle.day.specs.declared.Day.{Day}
 use Rattle.day.specs.declared.Shown.{Shown}
+use Rattle.need.specs.declared.Stop.{Stop}
 use Rattle.pause.specs.declared.Pause.{Pause}
 use Rattle.pause.specs.declared.Pauses.{Pauses}
 use Rattle.period.specs.declared.Judged.{Judged}
@@ -37,6 +39,8 @@ pub record Once : Type 0 where
   pub classes : (a : Answer) (cs : List ℕ) (x y : Classes) → (x .answer ≡ a) × (x .classes ≡ cs) → (y .answer ≡ a) × (y .classes ≡ cs) → x ≡ y
   -- pause: `unpack` says count and pauses
   pub pauses : (n : ℕ) (at : List Pause) (x y : Pauses) → (x .count ≡ n) × (x .at ≡ at) → (y .count ≡ n) × (y .at ≡ at) → x ≡ y
+  -- need: `stop_of` says whether there is a stop day, and which
+  pub stop : (any : Bool) (day : ℕ) (x y : Stop) → (x .any ≡ any) × (x .day ≡ day) → (y .any ≡ any) × (y .day ≡ day) → x ≡ y
   -- register: `clear`, `submit`, `sign` and `drop_plan`; `release`; `state_of`
   pub calls : (r : List ℕ) (c : Call) (x y : Refusal) (s t : List ℕ) → Called r c (nothingBut x) s → Called r c (nothingBut y) t → (x ≡ y) × (s ≡ t)
   pub releases : (r : List ℕ) (c : Call) (x y : Released) (s t : List ℕ) → Called r c (released x) s → Called r c (released y) t → (x ≡ y) × (s ≡ t)

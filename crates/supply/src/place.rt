@@ -9,7 +9,7 @@ use plan::doses_of;
 use plan::interval_of;
 ghost use mathlib.Core.Path.{_≡_};
 ghost use mathlib.Core.Bool.{true};
-ghost use Prim.Native.Nat.{_≤_, _<_};
+ghost use Prim.Native.Nat.{_+_, _≤_, _<_};
 ghost use Rattle.day.specs.Days.{lastNumber};
 ghost use Rattle.supply.specs.code.Standing.{positionBehind, doseFrom, isStill, Placed, Moved, Stands, IsAt, InPeriod};
 
@@ -84,7 +84,7 @@ pub(crate) fn place_on(plan: &[u8], choice: u32, day: u32, t: Period) -> Place
 
 // The position of the day behind: it rises, and begins again where a round ends. A remainder would take longer.
 fn position_behind(interval: u32, position: u32) -> u32
-    requires { ⌜ position < 4294967295 ⌝ }
+    requires { ⌜ position ≤ lastNumber + 1 ⌝ }
     ensures { λ r. ⌜ r ≡ positionBehind interval position ⌝ }
 {
     if position == interval {
@@ -93,7 +93,7 @@ fn position_behind(interval: u32, position: u32) -> u32
     position + 1
 }
 
-// The dose at which those of the position behind t's begin: where t's end, or the first where a round begins.
+// The dose at which those of a position begin: behind those of the position ahead, or the first where a round begins.
 fn doses_from(position: u32, behind: u32) -> u16
     requires { ⌜ behind < 65536 ⌝ }
     ensures { λ r. ⌜ r ≡ doseFrom position behind ⌝ }
@@ -103,7 +103,7 @@ fn doses_from(position: u32, behind: u32) -> u16
 
 // The place of the day behind that of s, in the period t.
 pub(crate) fn next_place(plan: &[u8], choice: u32, t: Period, s: Place) -> Place
-    requires { ⌜ (t .any ≡ true → Placed choice (now plan) t s) × (t .any ≡ true → s .position < 4294967295) ⌝ }
+    requires { ⌜ (t .any ≡ true → Placed choice (now plan) t s) × (t .any ≡ true → s .position ≤ lastNumber + 1) ⌝ }
     ensures { λ r. ⌜ Moved choice (now (plan .entry)) t s r ⌝ }
 {
     if !t.any {

@@ -10,7 +10,7 @@ use crate::until::periods_until;
 use doses::is_covering;
 ghost use mathlib.Core.Path.{_≡_};
 ghost use mathlib.Core.Bool.{true, cond};
-ghost use Prim.Native.Nat.{_≤_, _<_};
+ghost use Prim.Native.Nat.{_+_, _≤_};
 ghost use Rattle.day.specs.Days.{lastNumber};
 ghost use Rattle.plan.specs.Periods.{blocksOf};
 ghost use Rattle.supply.specs.code.Standing.{Orderly, Placed, Known, Behind, Next};
@@ -43,7 +43,7 @@ fn covering_from(plan: &[u8], day: u32, lo: u8) -> u8
 }
 
 // Up to which day the days need the same, if the periods that they are in up to day `until` are still.
-fn same_until(still: bool, day: u32, until: u32) -> u32
+fn steady_until(still: bool, day: u32, until: u32) -> u32
     ensures { λ r. ⌜ r ≡ cond still until day ⌝ }
 {
     if still { until } else { day }
@@ -61,7 +61,7 @@ pub(crate) fn on_day(plan: &[u8], choice: u32, day: u32) -> Today
     let second = period_at(plan, c);
     Today {
         until,
-        same: same_until(is_still(first) & is_still(second), day, until),
+        same: steady_until(is_still(first) & is_still(second), day, until),
         first,
         second,
         in_first: place_on(plan, choice, day, first),
@@ -71,12 +71,16 @@ pub(crate) fn on_day(plan: &[u8], choice: u32, day: u32) -> Today
 
 // The day behind that of t, while the periods stay.
 pub(crate) fn next_day(plan: &[u8], choice: u32, t: Today) -> Today
-    requires { ⌜ (t .first .any ≡ true → Placed choice (now plan) (t .first) (t .in_first)) × (t .first .any ≡ true → t .in_first .position < 4294967295) ⌝ }
-    requires { ⌜ (t .second .any ≡ true → Placed choice (now plan) (t .second) (t .in_second)) × (t .second .any ≡ true → t .in_second .position < 4294967295) ⌝ }
+    requires { ⌜ (t .first .any ≡ true → Placed choice (now plan) (t .first) (t .in_first)) × (t .first .any ≡ true → t .in_first .position ≤ lastNumber + 1) ⌝ }
+    requires { ⌜ (t .second .any ≡ true → Placed choice (now plan) (t .second) (t .in_second)) × (t .second .any ≡ true → t .in_second .position ≤ lastNumber + 1) ⌝ }
     ensures { λ r. ⌜ Behind choice (now (plan .entry)) t r ⌝ }
 {
     let mut r = t;
     r.in_first = next_place(plan, choice, t.first, t.in_first);
-    r.in_second = next_place(plan, choice, t.second, t.in_second);
+    let second = t.second;
+    if !second.any {
+        return r;
+    }
+    r.in_second = next_place(plan, choice, second, t.in_second);
     r
 }

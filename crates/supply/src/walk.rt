@@ -15,8 +15,8 @@ ghost use Rattle.need.specs.Need.{dueOn};
 ghost use Rattle.supply.specs.code.Standing.{Orderly, Known};
 ghost use Rattle.supply.specs.code.Walking.{Going, Stepped, reasonAt, endedOf};
 
-// The walk stands on `day`, with a rest, and goes on as long as `going`; where supply is refused it never goes. It is handed on day by
-// day: no field is wider than it has to be, and none leaves a gap, so that the compiler keeps them apart in registers.
+// The walk stands on `day`, with a rest, and goes on as long as `going`; where supply is refused it never goes. It is handed on by value
+// each day: its fields, and those of what it holds, leave no gap, so that the compiler keeps them in registers.
 pub(crate) struct Walk {
     pub refused: bool,
     pub refusal: Refusal,

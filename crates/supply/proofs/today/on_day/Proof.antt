@@ -28,8 +28,8 @@ is-still-requires c κs = search needs
 is-still-requires-2 : tie.Need-is-still-requires-2
 is-still-requires-2 c κs = search needs
 
-same-until-requires : tie.Need-same-until-requires
-same-until-requires c κs = search needs
+steady-until-requires : tie.Need-steady-until-requires
+steady-until-requires c κs = search needs
 
 place-on-requires : tie.Need-place-on-requires
 place-on-requires c κs = (found-in _ _ (c .before .before .before .before .before .before .before .before .before .pre .0) (c .before .before .before .before .before .before .covering-from .ensures .0) (c .before .before .before .before .period-at .ensures), c .before .before .before .before .before .before .before .before .before .pre .1)
@@ -57,7 +57,7 @@ on-day-spec =
     period-at-requires-2
     is-still-requires
     is-still-requires-2
-    same-until-requires
+    steady-until-requires
     place-on-requires
     place-on-requires-2
     returns)
