@@ -12,10 +12,14 @@ pub(crate) const NO_DAY: Pause = Pause {
     last: 0,
 };
 
-// Does the pause from `first` to `last`, which may be open, hold the day?
+// Does the pause from `first` to `last`, which may be open, hold the day? The open mark is past every day of the calendar, so that for
+// such a day nobody need ask whether the end is open; what day it is is known ahead of all pauses.
 pub fn is_in(first: u32, last: u32, day: u32) -> bool
     ensures { λ r. ⌜ r ≡ isIn first last day ⌝ }
 {
+    if Day::new(day).is_day() {
+        return (first <= day) & (day <= last);
+    }
     (first <= day) & (day <= Day::new(last).closed().number)
 }
 

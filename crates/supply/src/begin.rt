@@ -54,11 +54,11 @@ fn refused(refusal: Refusal) -> Walk
         day: 0,
         rest: 0,
         today: Today {
+            first: NO_PERIOD,
+            in_first: NO_PLACE,
             until: 0,
             same: 0,
-            first: NO_PERIOD,
             second: NO_PERIOD,
-            in_first: NO_PLACE,
             in_second: NO_PLACE,
         },
     }

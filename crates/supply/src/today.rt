@@ -16,13 +16,14 @@ ghost use Rattle.plan.specs.Periods.{blocksOf};
 ghost use Rattle.supply.specs.code.Standing.{Orderly, Placed, Known, Behind, Next};
 
 // The day stands in the periods `first` and `second`, at a place in each. Up to day `until` the days are in the same periods, and up to
-// day `same` each needs what the one ahead of it needs.
+// day `same` each needs what the one ahead of it needs. The order is the compiler's: what a steady day only hands on stands in words of 8
+// bytes, each beside one that is looked at.
 pub(crate) struct Today {
+    pub first: Period,
+    pub in_first: Place,
     pub until: u32,
     pub same: u32,
-    pub first: Period,
     pub second: Period,
-    pub in_first: Place,
     pub in_second: Place,
 }
 
@@ -59,12 +60,13 @@ pub(crate) fn on_day(plan: &[u8], choice: u32, day: u32) -> Today
     let c = covering_from(plan, day, b + 1);
     let first = period_at(plan, b);
     let second = period_at(plan, c);
+    let same = steady_until(is_still(first) & is_still(second), day, until);
     Today {
-        until,
-        same: steady_until(is_still(first) & is_still(second), day, until),
         first,
-        second,
         in_first: place_on(plan, choice, day, first),
+        until,
+        same,
+        second,
         in_second: place_on(plan, choice, day, second),
     }
 }
