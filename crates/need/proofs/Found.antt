@@ -1,19 +1,19 @@
 -- The stop day: a turn of the loop that finds it, and that the verdict's classes are the plan's. Assumes nothing.
-use Prim.Native.Nat.{ℕ, zero, suc, _+_, _-_, _≤_, _<_, max, min}
-use mathlib.Core.Bool.{Bool, true, false, cond, or-false, _&&_}
+use Prim.Native.Nat.{ℕ, zero, suc, _+_, _-_, _≤_, _<_, max}
+use mathlib.Core.Bool.{Bool, true, false, cond, or-false}
 use mathlib.Core.List.{List}
 use mathlib.Core.Logic.{⊎-elim}
 use mathlib.Core.Path.{_≡_, refl, sym, ap, _∙_}
 use native.Mathlib.Omega.{arith}
 use lib.ListN.{length, getD, List·getD-eq-default}
 use Rattle.below.proofs.Search.{any-zero, any-more, any-same}
-use Rattle.below.proofs.Tests.{bool-cases, or-true, and-false, le-or-lt}
+use Rattle.below.proofs.Tests.{bool-cases, or-true, and-false}
 use Rattle.below.proofs.Total.{largest-zero, largest-more}
 use Rattle.below.specs.Below.{anyBelow, largestBelow}
 use Rattle.plan.specs.Fields.{lastOf}
 use Rattle.plan.specs.Periods.{blocksOf, blockAt, isPeriod, classOf}
 use Rattle.verdict.specs.code.Ready.{Classed}
-use Rattle.need.specs.Need.{choiceOf, stopsAt, stopDayBy, hasStopBy, stopDay, hasStop}
+use Rattle.need.specs.Need.{stopsAt, stopDayBy, hasStopBy, stopDay, hasStop}
 use Rattle.need.proofs.Rows.{empty-stops}
 
 -- some of the first b blocks stop, and the largest last day of those that do

@@ -16,12 +16,6 @@ use Rattle.block.specs.Bytes.{wordAt}
 use Rattle.pause.specs.declared.Pause.{Pause}
 use Rattle.pause.specs.Pauses.{noDay, isOut, areOut, firstOf, packedIn, pausesIn, lentOf}
 
--- what stands at a place that a list has, whatever stands past its end
-pub at-any : (xs : List Pause) (i : ℕ) (a b : Pause) → i < length xs → getD xs i a ≡ getD xs i b
-at-any [] i a b l = absurd (not-suc-le-zero l)
-at-any (x ∷ xs) zero a b l = refl
-at-any (x ∷ xs) (suc i) a b l = at-any xs i a b (omega arith)
-
 -- a list g n that grows at its end by f n, as the first n of a list and the pauses of n records do
 module _ (f : ℕ → Pause) (g : ℕ → List Pause) (none : g 0 ≡ []) (more : (n : ℕ) → g (suc n) ≡ g n ++ (f n ∷ [])) where
   grown-length : (n : ℕ) → length (g n) ≡ n

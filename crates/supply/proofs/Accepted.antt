@@ -1,16 +1,16 @@
 -- What the walk counts on holds of every plan that is accepted. Assumes nothing.
 use Prim.Native.Nat.{ℕ, zero, suc, _-_, _%_, _≤_, _<_}
-use mathlib.Core.Bool.{Bool, true, false, not, _&&_, _||_}
+use mathlib.Core.Bool.{true, false, not, _&&_, _||_}
 use mathlib.Core.List.{List}
 use mathlib.Core.Logic.{_⊎_, ⊎-elim}
-use mathlib.Core.Path.{_≡_, refl, sym, _∙_}
+use mathlib.Core.Path.{_≡_, sym, _∙_}
 use native.Mathlib.Nat.{eq-or-lt-of-le}
 use native.Mathlib.Omega.{arith}
 use lib.Dec.{eqb, leb, ltb}
 use lib.ListN.{length}
 use borrow.Author.Tests.{ltb-false, lt-ltb, leb-true, le-leb, eqb-true, not-false}
 use Rattle.below.proofs.Search.{any-not}
-use Rattle.below.proofs.Tests.{and-both, or-either, or-neither, true-not-false, not-true-false}
+use Rattle.below.proofs.Tests.{and-both, or-either, or-neither, not-true-false}
 use Rattle.doses.specs.Doses.{covers}
 use Rattle.need.proofs.Bound.{in-range}
 use Rattle.need.proofs.Rows.{chosen-in}

@@ -1,13 +1,12 @@
 -- Where the walk begins: what the verdict and the refusals say of supply's answer, whatever the pauses are. Assumes nothing.
-use Prim.Native.Nat.{ℕ, _≤_, _<_}
+use Prim.Native.Nat.{ℕ}
 use mathlib.Core.Bool.{Bool, true, false}
 use mathlib.Core.List.{List}
-use mathlib.Core.Path.{_≡_, refl, sym, ap, _∙_}
+use mathlib.Core.Path.{_≡_, sym, ap, _∙_}
 use native.Mathlib.Omega.{arith}
 use lib.ListN.{getD}
 use borrow.Author.Tests.{eq-eqb, ne-eqb}
 use Rattle.below.proofs.Tests.{true-not-false}
-use Rattle.below.specs.Lists.{listBelow}
 use Rattle.need.proofs.Found.{classed-any, classed-day}
 use Rattle.need.specs.Need.{stopDayBy, hasStopBy, stopDay, hasStop}
 use Rattle.refusal.specs.Refusals.{alone}
@@ -20,7 +19,7 @@ use Rattle.verdict.specs.code.Ready.{Classed}
 use Rattle.verdict.specs.declared.Answer.the-variants.{Accepted, Broken}
 use Rattle.supply.specs.Supply.{refusedBy, judgedOf}
 use Rattle.supply.specs.code.Standing.{Known}
-use Rattle.supply.specs.code.Walking.{Going, Ready, Begun}
+use Rattle.supply.specs.code.Walking.{Ready, Begun}
 use Rattle.supply.specs.declared.Supply.the-variants.{Refused}
 use Rattle.supply.specs.declared.walk.Walk.{Walk}
 use Rattle.supply.proofs.Accepted.{orderly}

@@ -15,7 +15,7 @@ use Rattle.below.specs.Below.{sumBelow}
 use Rattle.below.specs.Lists.{sumOver}
 use Rattle.doses.specs.Doses.{covers, positionOf, dosesOfPeriod, dosesOn}
 use Rattle.need.specs.Need.{chosen, dueOn}
-use Rattle.plan.specs.Fields.{intervalOf, headerOf}
+use Rattle.plan.specs.Fields.{intervalOf}
 use Rattle.plan.specs.Periods.{blocksOf, blockAt}
 use Rattle.supply.specs.code.Standing.{Orderly, needAt, needOf, isStill, Moved, InPeriod, Stands, IsAt, needIn, Known, Behind, Steady, Next}
 use Rattle.supply.specs.declared.place.Period.{Period}

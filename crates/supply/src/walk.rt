@@ -11,7 +11,6 @@ ghost use Prim.Native.Nat.{_+_, _-_, _≤_, _<_};
 ghost use mathlib.Core.Bool.{false, cond};
 ghost use lib.Dec.{eqb};
 ghost use Rattle.day.specs.Days.{lastNumber, openMark};
-ghost use Rattle.need.specs.Need.{dueOn};
 ghost use Rattle.supply.specs.code.Standing.{Orderly, Known};
 ghost use Rattle.supply.specs.code.Walking.{Going, Stepped, reasonAt, endedOf};
 

@@ -5,7 +5,7 @@ use mathlib.Core.Bool.{Bool, true, false, cond}
 use mathlib.Core.List.{List}
 use lib.Dec.{eqb, leb}
 use Rattle.day.specs.Days.{lastNumber, openMark}
-use Rattle.need.specs.Need.{dueOn, needOn, stopDay}
+use Rattle.need.specs.Need.{dueOn, needOn}
 use Rattle.pause.specs.declared.Pause.{Pause}
 use Rattle.verdict.specs.Verdict.{verdictOf}
 use Rattle.supply.specs.Supply.{lastingOf, judgedOf, passedOn}

@@ -1,4 +1,4 @@
-use mathlib.Core.Bool.{Bool, not}
+use mathlib.Core.Bool.{not}
 use mathlib.Core.Path.{ap}
 use borrow.Author.Needs.{needs}
 use Rattle.need.proofs.Rows.{counts-by, counts-none}

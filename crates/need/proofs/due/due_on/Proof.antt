@@ -2,7 +2,7 @@ use Prim.Native.Nat.{_-_, _≤_, min}
 use mathlib.Core.Bool.{true, false, cond}
 use mathlib.Core.List.{[]}
 use mathlib.Core.Logic.{⊎-elim}
-use mathlib.Core.Path.{_≡_, _∙_}
+use mathlib.Core.Path.{_≡_}
 use native.Mathlib.Omega.{arith}
 use borrow.Author.Needs.{needs}
 use Rattle.below.proofs.Lists.{sum-join}

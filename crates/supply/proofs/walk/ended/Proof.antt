@@ -1,4 +1,3 @@
-use native.Mathlib.Omega.{arith}
 use borrow.Author.Needs.{needs}
 use Rattle.supply.proofs.walk.ended.Statement.{statement}
 use Rattle.supply.proofs.walk.ended.Tie as tie

@@ -5,7 +5,6 @@ use mathlib.Core.Path.{_≡_, refl, ap, _∙_}
 use native.Mathlib.Nat.{eq-or-lt-of-le}
 use native.Mathlib.Omega.{arith}
 use borrow.Author.Needs.{needs}
-use Rattle.need.specs.Need.{dueOn}
 use Rattle.supply.proofs.Standing.{known-due, known-small, known-stays}
 use Rattle.supply.proofs.walk.next.Statement.{statement}
 use Rattle.supply.proofs.walk.next.Tie as tie

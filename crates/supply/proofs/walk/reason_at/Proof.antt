@@ -1,4 +1,3 @@
-use native.Mathlib.Omega.{arith}
 use borrow.Author.Tests.{le-leb, lt-leb, eq-eqb, ne-eqb}
 use Rattle.supply.proofs.walk.reason_at.Statement.{statement}
 use Rattle.supply.proofs.walk.reason_at.Tie as tie
