@@ -16,6 +16,7 @@ use Rattle.plan.specs.Periods.{doseIn}
 use Rattle.plan.specs.declared.Dose.{Dose}
 use Rattle.verdict.proofs.Exactly.{NoRuleBroken, formed-of}
 use Rattle.need.specs.Need.{chosen, dueOn}
+use Rattle.need.proofs.Chosen.{due-chosen}
 use Rattle.need.proofs.Rows.{chosen-in}
 
 upper-in : (x : Dose) → fieldOut x ≡ false → upperOf x ≤ 9999999999
@@ -35,8 +36,8 @@ in-range p n =
     }
 
 pub due-small : (p : List ℕ) → NoRuleBroken p → (choice d : ℕ) → dueOn choice p d ≤ 819199999918080
-unfolding dueOn
-due-small p n choice d = day-small p d (in-range p n) (chosen choice) (λ x l u. chosen-in choice x 9999999999 l u)
+due-small p n choice d =
+    rw (due-chosen choice p d) (day-small p d (in-range p n) (chosen choice) (λ x l u. chosen-in choice x 9999999999 l u))
 
 -- what is worked out for a day of such a plan is what it needs
 pub due-whole : (p : List ℕ) → NoRuleBroken p → (choice d : ℕ) → dueOn choice p d % 2 ^ 64 ≡ dueOn choice p d

@@ -4,7 +4,7 @@ use mathlib.Core.Bool.{Bool, false, cond, not, _&&_, _||_}
 use mathlib.Core.List.{List}
 use lib.Dec.{eqb}
 use Rattle.below.specs.Below.{anyBelow, largestBelow}
-use Rattle.below.specs.Lists.{sumOver}
+use Rattle.below.specs.Lists.{keep, sumOver}
 use Rattle.doses.specs.Doses.{dosesOn, lowOf}
 use Rattle.pause.specs.Pauses.{isPaused}
 use Rattle.pause.specs.declared.Pause.{Pause}
@@ -33,13 +33,17 @@ choiceOf choice =
     (cond (eqb choice 2) (record { counts = unmarked; amount = upperOf; stops = fixedOrMixed })
     (record { counts = λ x. false; amount = λ x. 0; stops = λ class. false }))
 
--- what a dose counts by the choice
+-- the doses of the choice on day d
+abbrev pub dosesBy : ℕ → List ℕ → ℕ → List Dose
+dosesBy choice p d = keep (choiceOf choice .counts) (dosesOn p d)
+
+-- what they need, pauses apart
+unfoldable pub dueOn : ℕ → List ℕ → ℕ → ℕ
+dueOn choice p d = sumOver (choiceOf choice .amount) (dosesBy choice p d)
+
+-- what a dose counts by the choice; one that is none of its doses counts nothing
 abbrev pub chosen : ℕ → Dose → ℕ
 chosen choice x = cond (choiceOf choice .counts x) (choiceOf choice .amount x) 0
-
--- what the doses of day d need, pauses apart
-unfoldable pub dueOn : ℕ → List ℕ → ℕ → ℕ
-dueOn choice p d = sumOver (chosen choice) (dosesOn p d)
 
 -- "A day's need is the sum of its unmarked amounts as chosen, 0 on a paused day."
 unfoldable pub needOn : ℕ → List ℕ → List Pause → ℕ → ℕ

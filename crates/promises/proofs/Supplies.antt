@@ -6,7 +6,7 @@ use Prim.Native.Nat.{ℕ, _%_}
 use lib.Dec.{eqb}
 use lib.ListN.{length}
 use Rattle.below.specs.Below.{firstFrom, firstBelow, anyBelow, sumBelow, largestBelow}
-use Rattle.below.specs.Lists.{listBelow, pickBelow, joinBelow, joinOver, sumOver}
+use Rattle.below.specs.Lists.{keep, listBelow, pickBelow, joinBelow, joinOver, sumOver}
 use Rattle.block.specs.Bytes.{numberAt, bytesOf, put}
 use Rattle.block.specs.Sums.{sealed}
 use Rattle.day.specs.Days.{openMark}
@@ -51,7 +51,7 @@ record All : Type 0 where
   p13 : Computed twoDaily 500 pauses13 bytes13 (record { days = 5; last = 8081; rest = 100; reason = 1 })
 
 all : All
-unfolding head unmarked daily revision oneDaily twoDaily filled headBytes periodStart doseBytes periodBlock bodyOf laidOut numberAt bytesOf put sealed listBelow joinOver firstFrom firstBelow anyBelow sumBelow largestBelow doseOf blockAt moreOf dosesOf doseIn hasUnmarked hasMarked classOf pickBelow joinBelow sumOver positionOf dosesOfPeriod dosesOn isPaused packedIn areOut judgedOf refusedBy lastingOf needOn dueOn choiceOf stopDayBy hasStopBy covered
+unfolding head unmarked daily revision oneDaily twoDaily filled headBytes periodStart doseBytes periodBlock bodyOf laidOut numberAt bytesOf put sealed listBelow joinOver firstFrom firstBelow anyBelow sumBelow largestBelow doseOf blockAt moreOf dosesOf doseIn hasUnmarked hasMarked classOf pickBelow joinBelow sumOver positionOf dosesOfPeriod dosesOn keep isPaused packedIn areOut judgedOf refusedBy lastingOf needOn dueOn choiceOf stopDayBy hasStopBy covered
 all =
     record {
       p10 = record { low = refl; upper = refl; packed-low = refl; packed-upper = refl };

@@ -14,6 +14,7 @@ use Rattle.below.proofs.Total.{sum-zero, sum-more}
 use Rattle.below.specs.Below.{sumBelow}
 use Rattle.below.specs.Lists.{sumOver}
 use Rattle.doses.specs.Doses.{covers, positionOf, dosesOfPeriod, dosesOn}
+use Rattle.need.proofs.Chosen.{due-chosen}
 use Rattle.need.specs.Need.{chosen, dueOn}
 use Rattle.plan.specs.Fields.{intervalOf}
 use Rattle.plan.specs.Periods.{blocksOf, blockAt}
@@ -51,8 +52,8 @@ module _ (choice : ℕ) (p : List ℕ) (o : Orderly choice p) {d u b c : ℕ} (r
     term k = sumOver (chosen choice) (cond (covers p e k) (dosesOfPeriod p e k) [])
 
     plan-sum : dueOn choice p e ≡ sumBelow (blocksOf p) term
-    unfolding dueOn dosesOn
-    plan-sum = let m : min (blocksOf p) 64 ≡ blocksOf p = omega (arith, o .few) in rw m (sum-join (chosen choice) (blocksOf p) _)
+    unfolding dosesOn
+    plan-sum = let m : min (blocksOf p) 64 ≡ blocksOf p = omega (arith, o .few) in due-chosen choice p e ∙ rw m (sum-join (chosen choice) (blocksOf p) _)
 
     out : (k : ℕ) → k < blocksOf p → covers p d k ≡ false → term k ≡ 0
     unfolding sumOver

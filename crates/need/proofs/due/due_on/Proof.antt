@@ -9,7 +9,8 @@ use Rattle.below.proofs.Lists.{sum-join}
 use Rattle.below.specs.Lists.{sumOver}
 use Rattle.doses.specs.Doses.{covers, dosesOfPeriod, dosesOn}
 use Rattle.plan.specs.Periods.{blocksOf}
-use Rattle.need.specs.Need.{chosen, dueOn}
+use Rattle.need.specs.Need.{chosen}
+use Rattle.need.proofs.Chosen.{due-chosen}
 use Rattle.need.proofs.Wrapped.{Sums, sums-begin, sums-hit, sums-miss, sums-picked}
 use Rattle.need.proofs.due.due_on.Statement.{statement}
 use Rattle.need.proofs.due.due_on.Tie as tie
@@ -51,12 +52,12 @@ loop-again c =
     )
 
 returns : tie.Need-returns Inv-loop μ-loop
-unfolding dueOn dosesOn
+unfolding dosesOn
 returns c =
     let l = c .before .loop in
     let a = c .before .before .before .before .args in
     let e : l .b ≡ min (blocksOf (a .plan .now)) 64 = omega arith in
-    rw (sum-join (chosen (a .choice)) (min (blocksOf (a .plan .now)) 64) (λ b. cond (covers (a .plan .now) (a .day) b) (dosesOfPeriod (a .plan .now) (a .day) b) []), ← e)
+    rw (due-chosen (a .choice) (a .plan .now) (a .day), sum-join (chosen (a .choice)) (min (blocksOf (a .plan .now)) 64) (λ b. cond (covers (a .plan .now) (a .day) b) (dosesOfPeriod (a .plan .now) (a .day) b) []), ← e)
     (sums-picked (chosen (a .choice)) (covers (a .plan .now) (a .day)) (dosesOfPeriod (a .plan .now) (a .day)) (l .inv .2))
 
 pub due-on-spec : {M : Type 1} → statement M
