@@ -26,7 +26,7 @@ static struct calls {
   reference = {reference_verdict, reference_supply, reference_split, reference_show_day, reference_day_sums, reference_clear,
                reference_submit, reference_sign, reference_release, reference_drop, reference_state};
 
-static uint8_t plan[DRAFT_BYTES], fixed[DRAFT_BYTES], need[DRAFT_BYTES], room[DRAFT_BYTES], out[32], reg[64 * 16896];
+static uint8_t plan[DRAFT_BYTES], fixed[DRAFT_BYTES], need[DRAFT_BYTES], room[DRAFT_BYTES], out[32], reg[64 * 16896], pauses[32 * 8];
 static size_t plan_len, fixed_len, need_len, reg_len;
 static uint32_t revision, start, most_days;
 
@@ -110,6 +110,7 @@ static void show_need(const struct calls *c) { must_be_done(c->show_day(fixed, f
 static void day_sums(const struct calls *c) { must_be_done(c->day_sums(plan, plan_len, start + most_days, out, 32), "day_sums"); }
 static void supply_month(const struct calls *c) { must_be_done(c->supply(plan, plan_len, start, 40 * 400, 1, NULL, 0, out, 32), "supply"); }
 static void supply_all(const struct calls *c) { must_be_done(c->supply(plan, plan_len, 0, 1000000000000u, 2, NULL, 0, out, 32), "supply"); }
+static void supply_paused(const struct calls *c) { must_be_done(c->supply(plan, plan_len, 0, 1000000000000u, 2, pauses, sizeof pauses, out, 32), "supply"); }
 
 static void clear(const struct calls *c) { must_be_done(c->clear(reg, reg_len), "clear"); }
 static void state(const struct calls *c) { must_be_done(c->state(reg, reg_len, 0, out, 16), "state"); }
@@ -173,9 +174,9 @@ static void bench_plan(const char *name) {
     char line[96];
     static const struct { const char *name; void (*task)(const struct calls *); } tasks[] = {
         {"verdict", verdict}, {"split", split}, {"show_day", show_day}, {"day_sums", day_sums},
-        {"supply, some days", supply_month}, {"supply, all days", supply_all}};
+        {"supply, some days", supply_month}, {"supply, all days", supply_all}, {"supply, 32 pauses", supply_paused}};
     split_now();
-    for (unsigned i = 0; i < 6; i++) {
+    for (unsigned i = 0; i < 7; i++) {
         snprintf(line, sizeof line, "%s: %s", tasks[i].name, name);
         bench(line, tasks[i].task);
     }
@@ -208,8 +209,17 @@ static void bench_register(const char *name, void (*make)(uint32_t number)) {
     }
 }
 
+/* 32 pauses of four days, 100 days apart. */
+static void make_pauses(void) {
+    for (unsigned i = 0; i < 32; i++) {
+        put_bytes(pauses + 8 * i, 4, 9000 + 100 * i);
+        put_bytes(pauses + 8 * i + 4, 4, 9003 + 100 * i);
+    }
+}
+
 int main(void) {
     printf("%-44s %12s %12s %8s\n", "ns each", "library", "reference", "ratio");
+    make_pauses();
     usual_plan(1);
     bench_plan("a usual plan");
     periods_of_20(1, 31);
