@@ -12,6 +12,7 @@
 static struct calls {
     uint32_t (*verdict)(const uint8_t *, size_t);
     uint32_t (*supply)(const uint8_t *, size_t, uint32_t, uint64_t, uint32_t, const uint8_t *, size_t, uint8_t *, size_t);
+    uint32_t (*dates)(const uint8_t *, size_t, uint32_t, uint64_t, const uint8_t *, size_t, uint8_t *, size_t);
     uint32_t (*split)(const uint8_t *, size_t, uint8_t *, size_t, uint8_t *, size_t, uint8_t *, size_t);
     uint32_t (*show_day)(const uint8_t *, size_t, const uint8_t *, size_t, uint32_t, uint32_t, uint8_t *, size_t);
     uint32_t (*day_sums)(const uint8_t *, size_t, uint32_t, uint8_t *, size_t);
@@ -21,12 +22,12 @@ static struct calls {
     uint32_t (*release)(const uint8_t *, size_t, uint32_t, uint8_t *, size_t, uint8_t *, size_t);
     uint32_t (*drop)(uint8_t *, size_t, uint32_t);
     uint32_t (*state)(const uint8_t *, size_t, uint32_t, uint8_t *, size_t);
-} library = {chivetassel_verdict, chivetassel_supply, chivetassel_split, chivetassel_show_day, chivetassel_day_sums, chivetassel_clear,
-             chivetassel_submit, chivetassel_sign, chivetassel_release, chivetassel_drop, chivetassel_state},
-  reference = {reference_verdict, reference_supply, reference_split, reference_show_day, reference_day_sums, reference_clear,
-               reference_submit, reference_sign, reference_release, reference_drop, reference_state};
+} library = {chivetassel_verdict, chivetassel_supply, chivetassel_dates, chivetassel_split, chivetassel_show_day, chivetassel_day_sums,
+             chivetassel_clear, chivetassel_submit, chivetassel_sign, chivetassel_release, chivetassel_drop, chivetassel_state},
+  reference = {reference_verdict, reference_supply, reference_dates, reference_split, reference_show_day, reference_day_sums,
+               reference_clear, reference_submit, reference_sign, reference_release, reference_drop, reference_state};
 
-static uint8_t plan[DRAFT_BYTES], fixed[DRAFT_BYTES], need[DRAFT_BYTES], room[DRAFT_BYTES], out[32], reg[64 * 16896], pauses[32 * 8];
+static uint8_t plan[DRAFT_BYTES], fixed[DRAFT_BYTES], need[DRAFT_BYTES], room[DRAFT_BYTES], out[40], reg[64 * 16896], pauses[32 * 8];
 static size_t plan_len, fixed_len, need_len, reg_len;
 static uint32_t revision, start, most_days;
 
@@ -111,6 +112,8 @@ static void day_sums(const struct calls *c) { must_be_done(c->day_sums(plan, pla
 static void supply_month(const struct calls *c) { must_be_done(c->supply(plan, plan_len, start, 40 * 400, 1, NULL, 0, out, 32), "supply"); }
 static void supply_all(const struct calls *c) { must_be_done(c->supply(plan, plan_len, 0, 1000000000000u, 2, NULL, 0, out, 32), "supply"); }
 static void supply_paused(const struct calls *c) { must_be_done(c->supply(plan, plan_len, 0, 1000000000000u, 2, pauses, sizeof pauses, out, 32), "supply"); }
+static void dates_month(const struct calls *c) { must_be_done(c->dates(plan, plan_len, start, 40 * 400, NULL, 0, out, 40), "dates"); }
+static void dates_all(const struct calls *c) { must_be_done(c->dates(plan, plan_len, 0, 1000000000000u, NULL, 0, out, 40), "dates"); }
 
 static void clear(const struct calls *c) { must_be_done(c->clear(reg, reg_len), "clear"); }
 static void state(const struct calls *c) { must_be_done(c->state(reg, reg_len, 0, out, 16), "state"); }
@@ -174,9 +177,10 @@ static void bench_plan(const char *name) {
     char line[96];
     static const struct { const char *name; void (*task)(const struct calls *); } tasks[] = {
         {"verdict", verdict}, {"split", split}, {"show_day", show_day}, {"day_sums", day_sums},
-        {"supply, some days", supply_month}, {"supply, all days", supply_all}, {"supply, 32 pauses", supply_paused}};
+        {"supply, some days", supply_month}, {"supply, all days", supply_all}, {"supply, 32 pauses", supply_paused},
+        {"dates, some days", dates_month}, {"dates, all days", dates_all}};
     split_now();
-    for (unsigned i = 0; i < 7; i++) {
+    for (unsigned i = 0; i < 9; i++) {
         snprintf(line, sizeof line, "%s: %s", tasks[i].name, name);
         bench(line, tasks[i].task);
     }

@@ -25,8 +25,8 @@
 
 /* The version of this header: the first number moves where an old caller has to be changed, the second where something is
    new, the third where something is mended. chivetassel_version says it of the library that was linked. */
-#define CHIVETASSEL_VERSION 10000u /* 10,000 * first + 100 * second + third */
-#define CHIVETASSEL_VERSION_TEXT "1.0.0"
+#define CHIVETASSEL_VERSION 10100u /* 10,000 * first + 100 * second + third */
+#define CHIVETASSEL_VERSION_TEXT "1.1.0"
 
 /* On what a call writes, and on what it reads beside that: see "Buffers must not overlap". */
 #if defined(__GNUC__) || defined(_MSC_VER)
@@ -69,6 +69,7 @@ extern "C" {
 
 /* The least bytes of `out`, call by call. */
 #define CHIVETASSEL_SUPPLY_OUT 32u      /* days covered, last covered day, rest, reason */
+#define CHIVETASSEL_DATES_OUT 40u       /* end, minimum, maximum, both kinds together, as needed only */
 #define CHIVETASSEL_SPLIT_OUT 16u       /* length of the fixed part, length of the need part */
 #define CHIVETASSEL_SHOW_DAY_OUT 16u    /* where in the part the blocks begin, how many bytes they are */
 #define CHIVETASSEL_DAY_SUMS_OUT 32u    /* unmarked low, unmarked upper, marked low, marked upper */
@@ -104,8 +105,8 @@ extern "C" {
 #define CHIVETASSEL_PACK_TOO_LARGE 20u      /* above CHIVETASSEL_PACK_MOST */
 #define CHIVETASSEL_BAD_PAUSES 21u          /* more than 32, one that is no stretch of days, or a length that is no multiple of 8 */
 #define CHIVETASSEL_BAD_START 22u           /* above the last day */
-#define CHIVETASSEL_BAD_CHOICE 23u          /* not 1 or 2 */
-#define CHIVETASSEL_NOTHING_TO_SUPPLY 24u   /* no fixed or mixed period, or the start lies after the stop day */
+#define CHIVETASSEL_BAD_CHOICE 23u          /* not 1 to 4 */
+#define CHIVETASSEL_NOTHING_TO_SUPPLY 24u   /* no period has a dose of the choice, or the start lies after the choice's stop day */
 #define CHIVETASSEL_SHORT_PART_BUFFER 25u   /* split: one of the two buffers has less than CHIVETASSEL_PART_ROOM bytes */
 #define CHIVETASSEL_SHORT_BUFFER 26u        /* `out` is too short; given ahead of all else */
 
@@ -129,22 +130,39 @@ uint32_t chivetassel_version(void);
 CHIVETASSEL_MUST_USE
 uint32_t chivetassel_verdict(const uint8_t *plan, size_t plan_len);
 
-#define CHIVETASSEL_LOW 1u                  /* choices: low amounts */
-#define CHIVETASSEL_UPPER 2u                /* high amounts, or low ones where high is 0 */
+/* Choices: which doses count, by which amount, and up to which day, the choice's stop day. The upper amount is high, or low
+   where high is 0. */
+#define CHIVETASSEL_LOW 1u                  /* unmarked doses by low amounts, up to the last day of any fixed or mixed period */
+#define CHIVETASSEL_UPPER 2u                /* the same by upper amounts */
+#define CHIVETASSEL_BOTH 3u                 /* marked and unmarked ones by upper amounts, up to that of any period with doses */
+#define CHIVETASSEL_AS_NEEDED 4u            /* marked ones only by upper amounts, up to that of any need or mixed period */
 
 #define CHIVETASSEL_NEEDS_MORE 1u           /* reasons: the next day needs more than the rest */
-#define CHIVETASSEL_STOP_DAY 2u             /* the stop day is reached: the last day of any fixed or mixed period */
+#define CHIVETASSEL_STOP_DAY 2u             /* the choice's stop day is reached */
 #define CHIVETASSEL_STOP_LAST_DAY 3u        /* the same, and it is the calendar's last day */
 
-/* How far a pack lasts from day `start` on. Amounts are hundredths of the plan's unit; choice 1 counts low amounts, 2 upper
-   ones. A pause is 8 bytes: its first and its last day, which may be the open mark, 32 bits each. `out` gets four 64-bit
-   numbers: days covered, last covered day (the open mark where there is none), rest, and why it ends (1 the next day needs
-   more than the rest, 2 the stop day is reached, 3 the same and it is the calendar's last day). `out` must overlap neither
-   `plan` nor `pauses`. */
+/* How far a pack lasts from day `start` on, for the doses of a choice, 1 to 4. Amounts are hundredths of the plan's unit. A
+   pause is 8 bytes: its first and its last day, which may be the open mark, 32 bits each; a paused day needs nothing. `out`
+   gets four 64-bit numbers: days covered, last covered day (the open mark where there is none), rest, and why it ends (1 the
+   next day needs more than the rest, 2 the choice's stop day is reached, 3 the same and it is the calendar's last day). `out`
+   must overlap neither `plan` nor `pauses`. */
 CHIVETASSEL_MUST_USE
 uint32_t chivetassel_supply(const uint8_t *CHIVETASSEL_RESTRICT plan, size_t plan_len, uint32_t start, uint64_t pack,
                             uint32_t choice, const uint8_t *CHIVETASSEL_RESTRICT pauses, size_t pauses_len,
                             uint8_t *CHIVETASSEL_RESTRICT out, size_t out_len);
+
+/* Supply's last covered days by all choices in one call. `out` gets five 64-bit numbers, each a day, or the open mark where the
+   date is absent: the end date, the minimum date, the maximum date, the date of both kinds of doses together, and that of the
+   as-needed doses only. Where a fixed or mixed period that ends on or after the start has an unmarked dose with a high amount,
+   there is a minimum date, by choice 1, and a maximum date, by choice 2, which is never the later one; otherwise there is an
+   end date, by choice 1 or 2, which agree then. The last two, by choices 3 and 4, are there only where a need or mixed period
+   ends on or after the start. A date without a covered day, or that supply would refuse with CHIVETASSEL_NOTHING_TO_SUPPLY, is
+   absent: all five may be, and nothing is refused for it. Refused as supply is for the plan, the pack, the pauses and the
+   start. `out` must overlap neither `plan` nor `pauses`. */
+CHIVETASSEL_MUST_USE
+uint32_t chivetassel_dates(const uint8_t *CHIVETASSEL_RESTRICT plan, size_t plan_len, uint32_t start, uint64_t pack,
+                           const uint8_t *CHIVETASSEL_RESTRICT pauses, size_t pauses_len, uint8_t *CHIVETASSEL_RESTRICT out,
+                           size_t out_len);
 
 /* Splits a plan into its fixed and its as-needed part. `fixed` and `need` have at least CHIVETASSEL_PART_ROOM bytes each. Each
    part stands at the beginning of its buffer, and `out` gets two 64-bit numbers: the length of the fixed part and that of the

@@ -30,7 +30,7 @@ static inline const char *chivetassel_text(uint32_t number) {
     case CHIVETASSEL_BAD_PAUSES: return "the pauses are no good";
     case CHIVETASSEL_BAD_START: return "the start is no day of the calendar";
     case CHIVETASSEL_BAD_CHOICE: return "there is no such choice";
-    case CHIVETASSEL_NOTHING_TO_SUPPLY: return "no fixed dose on or after the start";
+    case CHIVETASSEL_NOTHING_TO_SUPPLY: return "no dose of the choice on or after the start";
     case CHIVETASSEL_SHORT_PART_BUFFER: return "the room for a part is too short";
     case CHIVETASSEL_SHORT_BUFFER: return "the room for the answer is too short";
     case CHIVETASSEL_NOT_SOUND: return "the register is damaged, or no register";
@@ -70,8 +70,8 @@ static inline const char *chivetassel_look_at(uint32_t number) {
     case CHIVETASSEL_PACK_TOO_LARGE: return "the pack: at most 10,000,000,000.00";
     case CHIVETASSEL_BAD_PAUSES: return "each pause's first and last day; there are at most 32";
     case CHIVETASSEL_BAD_START: return "the start: 2000-01-01 to 2199-12-31";
-    case CHIVETASSEL_BAD_CHOICE: return "the choice: 1 for low amounts, 2 for upper ones";
-    case CHIVETASSEL_NOTHING_TO_SUPPLY: return "the start, and whether the plan has fixed doses";
+    case CHIVETASSEL_BAD_CHOICE: return "the choice: 1 or 2 for fixed doses by low or upper amounts, 3 for all doses, 4 for as-needed ones";
+    case CHIVETASSEL_NOTHING_TO_SUPPLY: return "the start, and whether the plan has doses of the choice";
     case CHIVETASSEL_SHORT_PART_BUFFER: return "the calling program: each part needs 32,768 bytes";
     case CHIVETASSEL_SHORT_BUFFER: return "the calling program: the header says how many bytes each call needs";
     case CHIVETASSEL_NOT_SOUND: return "the last copy of the register that was sound; this one is to be kept as it is";

@@ -46,6 +46,15 @@ need 2017-12-12 2017-12-15 8
      "verdict 0 255\n" + "".join(f"need {day(8000 + i)} {day(8000 + i)} {1 - i % 2}\n" for i in range(59))),
     ("long", "a period of 41 doses in three blocks",
      plan(period(8000, 8040, [dose(i) for i in range(1, 42)])), "verdict 0 255\nfixed 2021-11-26 2022-01-05 41\n"),
+    ("end-date", "source 003's first answer: 1.00 daily to 2022-03-11, so that 500 from 2022-02-11 on last to that day",
+     plan(fixed(8077, 8105)), "verdict 0 255\nfixed 2022-02-11 2022-03-11 1\n"),
+    # From 2022-02-11, day 8077, with 500.00: 97 x 5.15 = 499.55 to 2022-05-18, and 98 would be 504.70; 29 x 17.00 = 493.00 to
+    # 2022-03-11, and 30 would be 510.00; 15 x (17.00 + 15.00) = 480.00 to 2022-02-25, and 16 would be 512.00; 16 x 15.00 +
+    # 308 x 0.80 = 486.40 to 2022-12-31, where the as-needed doses end.
+    ("dates", "source 003's second answer: a fixed dose \"from .. to\" under as-needed ones, so that a pack has four last days",
+     plan(period(8077, OPEN, [dose(low=515, high=1700)], 1), period(8077, 8092, [dose(mark=1, low=500, high=1500)], 1),
+          period(8093, 8400, [dose(mark=1, low=80)], 1)),
+     "verdict 0 255\nfixed 2022-02-11 open 1\nneed 2022-02-11 2022-02-26 1\nneed 2022-02-27 2022-12-31 1\n"),
     ("revision-4", "plan 7 as first approved: the older plan of `tests/approval`",
      plan(fixed(6547, 6560), number=7, revision=4), "verdict 0 255\nfixed 2017-12-04 2017-12-17 1\n"),
     ("revision-5", "plan 7 with a week more: the newer one",

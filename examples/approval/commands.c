@@ -10,7 +10,7 @@ uint8_t plan[CHIVETASSEL_PLAN_ROOM + 1], room[CHIVETASSEL_PLAN_ROOM];
 size_t plan_len, room_len;
 uint64_t typed[WORDS_MOST];
 
-static uint8_t supplied[CHIVETASSEL_SUPPLY_OUT], held[CHIVETASSEL_STATE_OUT];
+static uint8_t supplied[CHIVETASSEL_SUPPLY_OUT], dated[CHIVETASSEL_DATES_OUT], held[CHIVETASSEL_STATE_OUT];
 
 uint64_t a_plan(const char *name) {
     (void)name;
@@ -45,6 +45,41 @@ static void tell_supply(void) {
     else
         printf("lasts %u day%s, from %s to %s", days, days == 1 ? "" : "s", first, last);
     printf("; %s is left; %s\n", rest, chivetassel_reason_text(long_at(supplied, 3)));
+}
+
+static uint32_t ask_dates(void) {
+    return chivetassel_dates(plan, plan_len, (uint32_t)typed[1], typed[2], NULL, 0, dated, sizeof dated);
+}
+
+/* A date of the set, with the doses that it is of; one that is absent is not passed over, and has words of its own. */
+static void tell_date(const char *doses, uint64_t date, const char *absent) {
+    char last[WORD_ROOM];
+    if (date == CHIVETASSEL_OPEN)
+        printf("%s: %s\n", doses, absent);
+    else
+        printf("%s: to %s\n", doses, day_in(last, date));
+}
+
+/* Where there is a minimum date and no maximum, or a date of the as-needed doses and none of both kinds, it is the pack that is
+   too small. Where neither is there, the set does not say why; supply would, by its refusal. */
+static void tell_dates(void) {
+    static const char no_date[] = "no date (no such dose from then on, or the first day needs more)", no_day[] = "not for one day";
+    uint64_t end = long_at(dated, 0), minimum = long_at(dated, 1), maximum = long_at(dated, 2);
+    uint64_t both = long_at(dated, 3), as_needed = long_at(dated, 4);
+    char first[WORD_ROOM], amount[WORD_ROOM];
+    printf("%s from %s on lasts:\n", amount_in(amount, typed[2]), day_in(first, typed[1]));
+    if (minimum == CHIVETASSEL_OPEN) {
+        tell_date("fixed doses", end, no_date);
+    } else {
+        tell_date("fixed doses, if the least is taken", minimum, no_date);
+        tell_date("fixed doses, if the most is taken", maximum, no_day);
+    }
+    if (as_needed == CHIVETASSEL_OPEN) {
+        tell_date("as-needed doses", as_needed, no_date);
+    } else {
+        tell_date("fixed and as-needed doses, if the most is taken", both, no_day);
+        tell_date("as-needed doses alone, if the most is taken", as_needed, no_date);
+    }
 }
 
 static uint32_t ask_new(void) {
@@ -119,8 +154,10 @@ static void tell_drop(void) {
 const struct command commands[] = {
     {"new", "SLOTS: begins a register with room for so many plans", BEGINS, {slots_of}, ask_new, tell_clear},
     {"verdict", "PLAN: judges a plan", NOTHING, {a_plan}, ask_verdict, tell_verdict},
-    {"supply", "PLAN START PACK CHOICE: how far a pack lasts, as 2017-12-04 500.00 low (or upper)", NOTHING,
+    {"supply", "PLAN START PACK CHOICE: how far a pack lasts, as 2017-12-04 500.00 low (or upper, both, needed)", NOTHING,
      {a_plan, day_of, amount_of, choice_of}, ask_supply, tell_supply},
+    {"dates", "PLAN START PACK: up to which days a pack lasts, for fixed and for as-needed doses, as 2017-12-04 500.00", NOTHING,
+     {a_plan, day_of, amount_of}, ask_dates, tell_dates},
     {"submit", "PLAN: takes a plan in", CHANGES, {a_plan}, ask_submit, tell_submit},
     {"sign", "SIGNER PLAN: signs the plan as seen, with a pharmacist's number", CHANGES, {signer_of, a_plan}, ask_sign, tell_sign},
     {"state", "NUMBER: which revision of a plan is held, and how many have signed it", READS, {number_of}, ask_state, tell_state},

@@ -74,9 +74,12 @@ uint64_t amount_of(const char *word) {
 }
 
 uint64_t choice_of(const char *word) {
-    if (strcmp(word, "low") != 0 && strcmp(word, "upper") != 0)
-        fail_by_word(word, "no choice: say low or upper, for the amounts that are counted");
-    return strcmp(word, "low") == 0 ? CHIVETASSEL_LOW : CHIVETASSEL_UPPER;
+    static const struct { const char *word; uint64_t choice; } choices[] = {
+        {"low", CHIVETASSEL_LOW}, {"upper", CHIVETASSEL_UPPER}, {"both", CHIVETASSEL_BOTH}, {"needed", CHIVETASSEL_AS_NEEDED}};
+    for (size_t i = 0; i < sizeof choices / sizeof choices[0]; i++)
+        if (strcmp(word, choices[i].word) == 0)
+            return choices[i].choice;
+    fail_by_word(word, "no choice: say low or upper for the fixed doses, both for all doses, needed for the as-needed ones");
 }
 
 const char *day_in(char *made, uint64_t day) {

@@ -12,7 +12,7 @@ uint64_t signer_of(const char *word);  /* a pharmacist's number */
 uint64_t number_of(const char *word);  /* a plan's number */
 uint64_t day_of(const char *word);     /* 2017-12-04 */
 uint64_t amount_of(const char *word);  /* 10, 10.5 or 10.50, in hundredths */
-uint64_t choice_of(const char *word);  /* low or upper */
+uint64_t choice_of(const char *word);  /* low, upper, both or needed */
 
 /* 2017-12-04, or "open". Gives the buffer. */
 const char *day_in(char *made, uint64_t day);

@@ -183,7 +183,7 @@ test_many_screens() {
 test_output() {
     signed
     local words
-    for words in "state 7" "verdict 4" "supply 4 2017-12-04 10.00 low" "verdict $samples/hole.plan" "release 7 out"; do
+    for words in "state 7" "verdict 4" "supply 4 2017-12-04 10.00 low" "dates 4 2017-12-04 10.00" "verdict $samples/hole.plan" "release 7 out"; do
         ended=0
         bash "$emulate" "$work/approval" register $words >/dev/full 2>told || ended=$?
         [ "$ended" -ge 3 ] && [ -s told ] || wrong "'$words' to a full disk: ended with $ended"

@@ -208,8 +208,8 @@ static void bend_14(struct random *r, struct draft *draft) {
         period->interval = n;
     } else {
         period->interval = 0;
-        if (period->last == DAY_OPEN || period->first + n - 1 > DAY_LAST)
-            period->last = DAY_OPEN;
+        if (period->last == DAY_OPEN || period->first + n - 1 > DAY_LAST || once_in(r, 3))
+            period->last = draft->end = DAY_OPEN;
         else
             period->last = period->first + n - 1;
     }

@@ -7,7 +7,7 @@
 #include <stdlib.h>
 #include <string.h>
 
-const char *const call_names[CALLS] = {"verdict", "supply", "split", "show_day", "day_sums", "clear", "submit", "sign", "release", "drop", "state"};
+const char *const call_names[CALLS] = {"verdict", "supply", "dates", "split", "show_day", "day_sums", "clear", "submit", "sign", "release", "drop", "state"};
 uint64_t answers[CALLS][64];
 
 /* All that is lent on one side, with bytes behind each buffer that nobody may touch. */
@@ -30,6 +30,8 @@ static uint32_t shift_now;
         case SUPPLY:                                                                                                           \
             return prefix##_supply(plan, in->plan_len, in->start, in->pack, in->choice, pauses, in->pauses_len, out,           \
                                    in->out_len);                                                                               \
+        case DATES:                                                                                                            \
+            return prefix##_dates(plan, in->plan_len, in->start, in->pack, pauses, in->pauses_len, out, in->out_len);          \
         case SPLIT: return prefix##_split(plan, in->plan_len, fixed, in->fixed_len, need, in->need_len, out, in->out_len);     \
         case SHOW_DAY:                                                                                                         \
             return prefix##_show_day(fixed, in->fixed_len, need, in->need_len, in->list, in->day, out, in->out_len);           \

@@ -30,8 +30,8 @@ static uint64_t some_amount(struct random *r) {
 static void choose_amounts(struct random *r, struct draft_dose *dose) {
     dose->low = some_amount(r);
     dose->high = 0;
-    if (dose->low > 0 && dose->low < AMOUNT_MOST && once_in(r, 4)) {
-        uint64_t more = once_in(r, 3) ? 1 : between(r, 1, 1000);
+    if (dose->low > 0 && dose->low < AMOUNT_MOST && once_in(r, 3)) {
+        uint64_t more = once_in(r, 3) ? 1 : once_in(r, 2) ? between(r, 1, 1000) : between(r, 1, 3) * dose->low;
         dose->high = dose->low + more > AMOUNT_MOST ? AMOUNT_MOST : dose->low + more;
     }
 }

@@ -16,7 +16,7 @@ uint32_t numbers[] = {
 /* The sizes are constants, so that a caller can declare buffers by them. */
 uint8_t plan[CHIVETASSEL_PLAN_ROOM], fixed[CHIVETASSEL_PART_ROOM], need[CHIVETASSEL_PART_ROOM];
 uint8_t pauses[CHIVETASSEL_PAUSE * CHIVETASSEL_PAUSES_MOST], reg[CHIVETASSEL_SLOT * CHIVETASSEL_SLOTS_MOST];
-uint8_t covered[CHIVETASSEL_SUPPLY_OUT], lengths[CHIVETASSEL_SPLIT_OUT], stretch[CHIVETASSEL_SHOW_DAY_OUT];
+uint8_t covered[CHIVETASSEL_SUPPLY_OUT], dates[CHIVETASSEL_DATES_OUT], lengths[CHIVETASSEL_SPLIT_OUT], stretch[CHIVETASSEL_SHOW_DAY_OUT];
 uint8_t sums[CHIVETASSEL_DAY_SUMS_OUT], length[CHIVETASSEL_RELEASE_OUT], state[CHIVETASSEL_STATE_OUT];
 
 uint32_t every_call(void);
@@ -25,6 +25,7 @@ uint32_t every_call(void) {
     uint32_t all = chivetassel_version() ^ CHIVETASSEL_VERSION;
     all |= chivetassel_verdict(plan, CHIVETASSEL_BLOCK);
     all |= chivetassel_supply(plan, sizeof plan, 0, CHIVETASSEL_PACK_MOST, CHIVETASSEL_LOW, pauses, sizeof pauses, covered, sizeof covered);
+    all |= chivetassel_dates(plan, sizeof plan, 0, CHIVETASSEL_PACK_MOST, pauses, sizeof pauses, dates, sizeof dates);
     all |= chivetassel_split(plan, sizeof plan, fixed, sizeof fixed, need, sizeof need, lengths, sizeof lengths);
     all |= chivetassel_show_day(fixed, sizeof fixed, need, sizeof need, CHIVETASSEL_NEED_LIST, 0, stretch, sizeof stretch);
     all |= chivetassel_day_sums(plan, sizeof plan, 0, sums, sizeof sums);
@@ -38,6 +39,9 @@ uint32_t every_call(void) {
 #if CHIVETASSEL_NUMBER(CHIVETASSEL_DONE) != 0 || CHIVETASSEL_PLACE(CHIVETASSEL_DONE) != 255
 #error "done is number 0 at place 255"
 #endif
-#if CHIVETASSEL_FIXED_LIST != 1 || CHIVETASSEL_UPPER != 2 || CHIVETASSEL_NEEDS_MORE != 1 || CHIVETASSEL_STOP_DAY != 2 || CHIVETASSEL_STOP_LAST_DAY != 3
-#error "lists, choices and reasons are document 01's"
+#if CHIVETASSEL_FIXED_LIST != 1 || CHIVETASSEL_NEEDS_MORE != 1 || CHIVETASSEL_STOP_DAY != 2 || CHIVETASSEL_STOP_LAST_DAY != 3
+#error "lists and reasons are document 01's"
+#endif
+#if CHIVETASSEL_LOW != 1 || CHIVETASSEL_UPPER != 2 || CHIVETASSEL_BOTH != 3 || CHIVETASSEL_AS_NEEDED != 4
+#error "choices are those of documents 01 and 02"
 #endif

@@ -10,6 +10,8 @@ uint32_t overlaps(void) {
     uint32_t all = 0;
     all |= chivetassel_supply(a, 512, 0, 0, 1, b, 8, a, 32); /* warned */
     all |= chivetassel_supply(a, 512, 0, 0, 1, b, 8, b, 32); /* warned */
+    all |= chivetassel_dates(a, 512, 0, 0, b, 8, a, 40); /* warned */
+    all |= chivetassel_dates(a, 512, 0, 0, b, 8, b, 40); /* warned */
     all |= chivetassel_split(a, 512, a, 512, b, 512, c, 16); /* warned */
     all |= chivetassel_split(a, 512, b, 512, a, 512, c, 16); /* warned */
     all |= chivetassel_split(a, 512, b, 512, b, 512, c, 16); /* warned */

@@ -8,6 +8,7 @@ void unlooked(void);
 void unlooked(void) {
     chivetassel_verdict(a, 512);                       /* warned */
     chivetassel_supply(a, 512, 0, 0, 1, NULL, 0, b, 32); /* warned */
+    chivetassel_dates(a, 512, 0, 0, NULL, 0, b, 40);   /* warned */
     chivetassel_split(a, 512, b, 512, c, 512, NULL, 0); /* warned */
     chivetassel_show_day(a, 512, a, 512, 1, 0, b, 16); /* warned */
     chivetassel_day_sums(a, 512, 0, b, 32);            /* warned */

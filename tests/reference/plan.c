@@ -96,6 +96,14 @@ enum class class_of(const struct period *period) {
     return period->doses == 0 ? EMPTY : marked == 0 ? FIXED : marked == period->doses ? NEED : MIXED;
 }
 
+bool of_fixed(enum class class) {
+    return class == FIXED || class == MIXED;
+}
+
+bool of_need(enum class class) {
+    return class == NEED || class == MIXED;
+}
+
 uint32_t closed(uint32_t last) {
     return last == OPEN ? LAST_DAY : last;
 }

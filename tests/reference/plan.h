@@ -52,6 +52,8 @@ void seal(uint8_t *block);
 void read_plan(struct plan *plan, const uint8_t *bytes, size_t length);
 
 enum class class_of(const struct period *period);
+bool of_fixed(enum class class); /* "fixed and mixed" */
+bool of_need(enum class class);  /* "need and mixed" */
 uint32_t closed(uint32_t last); /* "An open last day counts as 73,048." */
 bool covers(const struct period *period, uint32_t day);
 uint64_t upper(const struct dose *dose);
@@ -64,6 +66,9 @@ struct answer judge(struct plan *plan, const uint8_t *bytes, size_t length);
 
 /* "The office keeps a day's four sums, marked and unmarked by low and upper, as two rows of two." */
 void sums_of_day(const struct plan *plan, uint32_t day, uint64_t sums[2][2]);
+
+/* What a day needs by a choice, 1 to 4, pauses left out. */
+uint64_t need_of_day(const struct plan *plan, uint32_t day, uint32_t choice);
 
 /* "Both return the number plus 256 times the place"; "the rest carry 255". */
 uint32_t code(struct answer answer);

@@ -163,8 +163,6 @@ static bool rule_16(const struct plan *plan, uint32_t at) {
 }
 
 static bool of_any(enum class class) { (void)class; return true; }
-static bool of_fixed(enum class class) { return class == FIXED || class == MIXED; }
-static bool of_need(enum class class) { return class == NEED || class == MIXED; }
 static bool of_fixed_or_empty(enum class class) { return of_fixed(class) || class == EMPTY; }
 static bool of_need_or_empty(enum class class) { return of_need(class) || class == EMPTY; }
 

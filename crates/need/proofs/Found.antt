@@ -66,7 +66,7 @@ past-none choice cs p b e l =
     rw (z, empty-stops choice, and-false)
 
 -- equal terms have one largest
-largest-same : {f g : ℕ → ℕ} (n : ℕ) → ((b : ℕ) → b < n → f b ≡ g b) → largestBelow n f ≡ largestBelow n g
+pub largest-same : {f g : ℕ → ℕ} (n : ℕ) → ((b : ℕ) → b < n → f b ≡ g b) → largestBelow n f ≡ largestBelow n g
 unfolding largestBelow
 largest-same zero h = refl
 largest-same (suc n) h = rw (largest-same n (λ b l. h b (omega arith)), h n (omega arith))

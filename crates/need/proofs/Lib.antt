@@ -4,3 +4,4 @@ pub mod Chosen
 pub mod Wrapped
 pub mod Found
 pub mod Bound
+pub mod Agreeing

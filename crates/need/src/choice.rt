@@ -3,7 +3,7 @@ use plan::Dose;
 use plan::is_marked;
 use plan::upper_of;
 ghost use mathlib.Core.Path.{_≡_};
-ghost use Rattle.need.specs.Need.{choiceOf, chosen};
+ghost use Rattle.need.specs.Need.{choiceOf, chosen, isChoice};
 
 // Does a dose count by the choice?
 fn is_counting(choice: u32, d: Dose) -> bool
@@ -12,7 +12,10 @@ fn is_counting(choice: u32, d: Dose) -> bool
     if (choice == 1) | (choice == 2) {
         return !is_marked(d);
     }
-    false
+    if choice == 4 {
+        return is_marked(d);
+    }
+    choice == 3
 }
 
 // What a dose counts by the choice.
@@ -35,5 +38,15 @@ pub fn is_stopping(choice: u32, class: u8) -> bool
     if (choice == 1) | (choice == 2) {
         return (class == 1) | (class == 3);
     }
-    false
+    if choice == 4 {
+        return (class == 2) | (class == 3);
+    }
+    (choice == 3) & (class != 0)
+}
+
+// Is it one of the four choices?
+pub fn is_choice(choice: u32) -> bool
+    ensures { λ r. ⌜ r ≡ isChoice choice ⌝ }
+{
+    (1 <= choice) & (choice <= 4)
 }

@@ -5,6 +5,7 @@ mod due;
 mod stopping;
 
 pub use choice::amount;
+pub use choice::is_choice;
 pub use choice::is_stopping;
 pub use due::due_on;
 pub use stopping::stop_of;

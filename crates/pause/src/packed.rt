@@ -3,7 +3,7 @@ use crate::Pause;
 use crate::Pauses;
 use crate::test::NO_DAY;
 ghost use mathlib.Core.Path.{_≡_};
-ghost use Prim.Native.Nat.{_<_};
+ghost use Prim.Native.Nat.{_<_, min};
 ghost use lib.ListN.{length, getD, set};
 ghost use Rattle.pause.specs.Pauses.{noDay, firstOf, pausesIn, lentOf};
 
@@ -30,12 +30,19 @@ fn packed_at(s: &[u8], i: usize) -> Pause
     NO_DAY
 }
 
-// The first 32 pauses of the bytes.
+fn least32(n: usize) -> usize
+    ensures { λ r. ⌜ r ≡ min n 32 ⌝ }
+{
+    if n < 32 { n } else { 32 }
+}
+
+// The first 32 pauses of the bytes. Only those that are there are gone through: a call without pauses is the usual one.
 fn records(s: &[u8]) -> [Pause; 32]
     ensures { λ r. ⌜ r ≡ firstOf 32 (pausesIn (now (s .entry))) ⌝ }
 {
+    let n = least32(s.len() / 8);
     let mut at = [NO_DAY; 32];
-    for i in 0..32 {
+    for i in 0..n {
         let b = with_pause(at, i, packed_at(s, i));
         at = b;
     }

@@ -21,14 +21,18 @@ use Rattle.register.proofs.Reached.{answered-done}
 use Rattle.register.specs.Slots.{roomSize, slotsOf, firstSigner, secondSigner, isHeld, slotUnder, planUnder}
 use Rattle.register.specs.Sound.{sound}
 use Rattle.register.specs.Steps.{Call, Call.clear, Call.submit, Call.sign, Call.release, Call.drop, Call.state, isDone, unlessBroken, isStale, isFull, same, refusedBy, given, answered, after, roomAfter}
-use Rattle.screen.specs.Calls.{tooShort, code26, supplyCode, supplyOut, splitCode, splitOut, stretchOut, sumsOut}
+use Rattle.screen.specs.Calls.{tooShort, code26, supplyCode, supplyOut, datesCode, datesOut, splitCode, splitOut, stretchOut, sumsOut}
 use Rattle.showing.specs.Showing.{stretchOf}
 use Rattle.split.specs.Parts.{partBytes}
 use Rattle.split.specs.Split.{tooSmall, lengthsOf, splitBy, splitOf, refusalIn, leftBy}
 use Rattle.split.specs.declared.Parted.{Parted}
 use Rattle.split.specs.declared.Parted.the-variants as split
-use Rattle.need.specs.Need.{stopDay, hasStop}
-use Rattle.supply.specs.Supply.{refusedBy as supplyRefusedBy, judgedOf, passedOn, packedSupplyOf, refusalIn as supplyRefusal}
+use Rattle.need.specs.Need.{isChoice, stopDay, hasStop}
+use Rattle.supply.specs.Dates.{setBy, refusalInSet, packedDatesOf}
+use Rattle.supply.specs.Supply.{askedBy, ownBy, refusedBy as supplyRefusedBy, judgedOf, passedOn, packedSupplyOf, refusalIn as supplyRefusal}
+use Rattle.supply.specs.declared.Dates.{Dates}
+use Rattle.supply.specs.declared.DateSet.{DateSet}
+use Rattle.supply.specs.declared.DateSet.the-variants as set
 use Rattle.supply.specs.declared.Supply.{Supply}
 use Rattle.supply.specs.declared.Supply.the-variants as supply
 use Rattle.verdict.specs.Verdict.{verdictOf, refusalOf}
@@ -36,7 +40,7 @@ use Rattle.verdict.specs.declared.Answer.{Answer}
 use Rattle.verdict.specs.declared.Answer.the-variants.{Accepted, Broken}
 use Rattle.promises.specs.Demand1.{Refused, Placed, verdictIn, Calls, ScreenCalls, Demand1}
 use Rattle.promises.specs.Orders.{firstGiven}
-use Rattle.promises.proofs.Orders.{verdict-first, supply-first, split-first, register-first}
+use Rattle.promises.proofs.Orders.{verdict-first, dates-first, supply-first, split-first, register-first}
 
 -- the place: of each test that a call makes, and of those one behind the other
 placed-alone : (v : Refusal) (k : ℕ) → 17 < k → Placed v (alone k)
@@ -61,15 +65,28 @@ far-cond : (t : Bool) {x y : ℕ} → Far x → Far y → Far (cond t x y)
 far-cond true a b = a
 far-cond false a b = b
 
+far-asked : (start pack : ℕ) (out : Bool) {x : ℕ} → Far x → Far (askedBy start pack out x)
+unfolding askedBy
+far-asked start pack out h =
+    far-cond (ltb 1000000000000 pack) (inr (omega arith)) (far-cond out (inr (omega arith)) (far-cond (not (isDay start)) (inr (omega arith)) h))
+
+-- the set of dates
+dates-placed : (a : Answer) (k : ℕ) (x : Dates) → Far k → Placed (refusalOf a) (refusalInSet (setBy a k x))
+dates-placed (Broken r) k x h = inl refl
+dates-placed (Accepted n) k x h =
+    ⊎-elim
+    (λ (t : eqb k 0 ≡ true). rw t (placed-done (alone 0)))
+    (λ (t : eqb k 0 ≡ false). rw t (inr (refl, h)))
+    (bool-cases (eqb k 0))
+
+-- supply
 module _ (p : List ℕ) (start pack choice : ℕ) (out : Bool) (ps : List Pause) where
   far : Far (supplyRefusedBy start pack choice out (hasStop choice p) (stopDay choice p))
-  unfolding supplyRefusedBy
+  unfolding ownBy
   far =
-      far-cond (ltb 1000000000000 pack) (inr (omega arith))
-      (far-cond out (inr (omega arith))
-      (far-cond (not (isDay start)) (inr (omega arith))
-      (far-cond (not (eqb choice 1 || eqb choice 2)) (inr (omega arith))
-      (far-cond (not (hasStop choice p) || ltb (stopDay choice p) start) (inr (omega arith)) (inl refl)))))
+      far-asked start pack out
+      (far-cond (not (isChoice choice)) (inr (omega arith))
+      (far-cond (not (hasStop choice p) || ltb (stopDay choice p) start) (inr (omega arith)) (inl refl)))
 
   judged-placed : Placed (alone 0) (supplyRefusal (judgedOf p start pack choice out ps))
   unfolding judgedOf
@@ -166,9 +183,11 @@ calls =
     record {
       verdict-order = verdict-first;
       supply-order = λ p start pack choice ps. supply-first p start pack choice (areOut ps) ps;
+      dates-order = λ p start pack ps. dates-first p start pack (areOut ps) _;
       split-order = split-first;
       register-order = register-first;
       supply-place = λ p start pack choice ps. supply-placed p start pack choice (areOut ps) ps (verdictOf p);
+      dates-place = λ p start pack ps. dates-placed (verdictOf p) (askedBy start pack (areOut ps) 0) _ (far-asked start pack (areOut ps) (inl refl));
       split-place = λ p fixed need. split-place p fixed need;
       register-place = answered-placed;
       split-keeps = λ p fixed need h. (left-same (splitOf p fixed need) h _ fixed, left-same (splitOf p fixed need) h _ need);
@@ -208,6 +227,14 @@ supply-same : (x : Supply) (out : List ℕ) → Refused (supplyRefusal x) → su
 supply-same (supply.Lasts y) out h = absurd (h refl)
 supply-same (supply.Refused r) out h = refl
 
+dates-code : (x : DateSet) → datesCode x ≡ codeOf (refusalInSet x)
+dates-code (set.Given y) = refl
+dates-code (set.Refused r) = refl
+
+dates-same : (x : DateSet) (out : List ℕ) → Refused (refusalInSet x) → datesOut out x ≡ out
+dates-same (set.Given y) out h = absurd (h refl)
+dates-same (set.Refused r) out h = refl
+
 split-code : (x : Parted) → splitCode x ≡ codeOf (refusalIn x)
 split-code (split.Parts n) = refl
 split-code (split.Refused r) = refl
@@ -234,6 +261,17 @@ screen =
             in-order = screen-number 32 out r (supply-first p start pack choice (not (eqb (length s % 8) 0) || areOut (pausesIn s)) (pausesIn s));
             place = screen-placed 32 out r (supply-placed p start pack choice (not (eqb (length s % 8) 0) || areOut (pausesIn s)) (pausesIn s) (verdictOf p));
             keeps = screen-keeps 32 out r out (supplyOut out x) (supply-same x out);
+          };
+      dates = λ p start pack s out.
+          let x = packedDatesOf p start pack s in
+          let r = refusalInSet x in
+          let bad = not (eqb (length s % 8) 0) || areOut (pausesIn s) in
+          record {
+            refusal = screenRefusal 40 out r;
+            code-is = screen-code 40 out r (dates-code x);
+            in-order = screen-number 40 out r (dates-first p start pack bad _);
+            place = screen-placed 40 out r (dates-placed (verdictOf p) (askedBy start pack bad 0) _ (far-asked start pack bad (inl refl)));
+            keeps = screen-keeps 40 out r out (datesOut out x) (dates-same x out);
           };
       split = λ p fixed need out.
           let x = splitOf p fixed need in

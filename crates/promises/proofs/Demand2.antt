@@ -1,5 +1,5 @@
 -- A term of demand 2. Assumes nothing.
-use Prim.Native.Nat.{ℕ, _+_, _-_, _%_}
+use Prim.Native.Nat.{ℕ, _%_}
 use mathlib.Core.Bool.{Bool, true, false, not, _||_}
 use mathlib.Core.List.{List, []}
 use mathlib.Core.Logic.{⊎-elim}
@@ -8,16 +8,13 @@ use mathlib.Core.Path.{_≡_, refl, sym, ap, _∙_}
 use native.Mathlib.Omega.{arith}
 use lib.Dec.{eqb}
 use lib.ListN.{length}
-use borrow.Author.Tests.{eqb-true}
 use Rattle.below.proofs.Tests.{bool-cases, not-true-false}
 use Rattle.layout.proofs.Back.{head-read, periods-read}
 use Rattle.layout.proofs.Fitting.{head-fits}
 use Rattle.layout.specs.Reading.{headOf}
 use Rattle.pause.specs.Pauses.{areOut, pausesIn}
-use Rattle.pause.specs.declared.Pause.{Pause}
 use Rattle.plan.specs.Fields.{revisionOf}
 use Rattle.refusal.specs.Refusals.{alone}
-use Rattle.refusal.specs.declared.Refusal.{Refusal}
 use Rattle.register.proofs.LawFind.{none-some, found-held}
 use Rattle.register.proofs.Promise.{held-latest, held-signed, slot-promise}
 use Rattle.register.proofs.Reached.{planOf, signaturesIn, signaturesOf, plan-found}
@@ -32,17 +29,10 @@ use Rattle.split.proofs.Range.{part-fits}
 use Rattle.split.proofs.Room.{few-blocks}
 use Rattle.split.proofs.Runs.{covered-ahead, covered-behind, run-between, between-run}
 use Rattle.split.specs.Parts.{partOf, partBytes}
-use Rattle.supply.proofs.Covering.{supplied}
-use Rattle.supply.proofs.Refusing.{Unrefused, unrefused}
-use Rattle.need.specs.Need.{needOn, stopDay, hasStop}
-use Rattle.supply.specs.Supply.{lastingOf, refusedBy, judgedOf, passedOn}
-use Rattle.supply.specs.declared.Lasting.{Lasting}
-use Rattle.supply.specs.declared.Supply.the-variants.{Lasts, Refused}
-use Rattle.verdict.specs.Verdict.{verdictOf}
-use Rattle.verdict.specs.declared.Answer.{Answer}
-use Rattle.verdict.specs.declared.Answer.the-variants.{Accepted, Broken}
-use Rattle.promises.specs.Demand2.{IsAccepted, Lists, LastCovered, Demand2}
+use Rattle.promises.specs.Demand2.{IsAccepted, Lists, Demand2}
 use Rattle.promises.proofs.Accepting.{accepted-none, verdicts}
+use Rattle.promises.proofs.LastDays.{last-covered}
+use Rattle.promises.proofs.Sets.{sets}
 
 module _ (p : List ℕ) (part : Bool) (bytes : IsBytes p) (e : IsAccepted p) where
   keeps : Kept p
@@ -62,51 +52,6 @@ module _ (p : List ℕ) (part : Bool) (bytes : IsBytes p) (e : IsAccepted p) whe
             (x .0, x .1 .within, x .1 .dosed, x .1 .run, x .1 .from, x .1 .to);
         run-longest = λ b l t r d. (covered-ahead part p keeps b l t r d, covered-behind part p keeps b l t r d);
       }
-
--- what a supply that is not refused answers
-not-both : {r : Refusal} {x : Lasting} → Refused r ≡ Lasts x → ⊥
-not-both e = let z : _≡_ {A = ℕ} 0 1 = cc in omega arith
-
--- `out` says that 21 is due
-pub record Answers (p : List ℕ) (start pack choice : ℕ) (out : Bool) (ps : List Pause) (x : Lasting) : Type 0 where
-  pub accepted : (n : ℕ) × (verdictOf p ≡ Accepted n)
-  pub unrefused : Unrefused start pack choice out (hasStop choice p) (stopDay choice p)
-  pub lasting : lastingOf (needOn choice p ps) start (stopDay choice p) pack ≡ x
-
-pub answers : (p : List ℕ) (start pack choice : ℕ) (out : Bool) (ps : List Pause) (x : Lasting) →
-    passedOn (verdictOf p) (judgedOf p start pack choice out ps) ≡ Lasts x → Answers p start pack choice out ps x
-unfolding judgedOf
-answers p start pack choice out ps x e = by-verdict (verdictOf p) refl
-  where
-    by-verdict : (a : Answer) → verdictOf p ≡ a → Answers p start pack choice out ps x
-    by-verdict (Broken r) v = absurd (not-both (rw v at e))
-    by-verdict (Accepted n) v =
-        let number = refusedBy start pack choice out (hasStop choice p) (stopDay choice p) in
-        let f = rw v at e in
-        ⊎-elim
-        (λ (t : eqb number 0 ≡ true).
-        let g = rw t at f in
-        record {
-          accepted = (n, v);
-          unrefused = unrefused start pack choice out (hasStop choice p) (stopDay choice p) (eqb-true _ _ t);
-          lasting = cc;
-        })
-        (λ (t : eqb number 0 ≡ false). absurd (not-both (rw t at f)))
-        (bool-cases (eqb number 0))
-
-last-covered : (p : List ℕ) (start pack choice : ℕ) (out : Bool) (ps : List Pause) (x : Lasting) →
-    passedOn (verdictOf p) (judgedOf p start pack choice out ps) ≡ Lasts x → LastCovered p start pack choice ps x
-unfolding lastingOf
-last-covered p start pack choice out ps x e =
-    let a = answers p start pack choice out ps x e in
-    let s = supplied (needOn choice p ps) start (stopDay choice p + 1 - start) pack in
-    rw (← (a .lasting))
-    (record {
-      not-past = omega (arith, s .within, a .unrefused .stop-in);
-      at-most = omega (arith, s .sum);
-      greatest = λ n h g. s .greatest n (omega arith) g;
-      last-is = refl;
-    })
 
 -- a register that was reached: what it finds under a number is what the history says
 module _ {h : List Event} {r : List ℕ} (w : Reached h r) (n : ℕ) where
@@ -144,5 +89,7 @@ demand2 =
       lists = lists;
       last-covered-day = λ p start pack choice ps x e. last-covered p start pack choice (areOut ps) ps x e;
       packed-last-covered-day = λ p start pack choice s x e. last-covered p start pack choice (not (eqb (length s % 8) 0) || areOut (pausesIn s)) (pausesIn s) x e;
+      dates = λ p start pack ps. sets p start pack (areOut ps) ps;
+      packed-dates = λ p start pack s. sets p start pack (not (eqb (length s % 8) 0) || areOut (pausesIn s)) (pausesIn s);
       register-answers = λ h r w. record { not-held = state-none w; held = state-some w };
     }

@@ -22,7 +22,7 @@ use Rattle.split.specs.Split.{tooSmall, lengthsOf, splitOf, refusalIn, over}
 use Rattle.split.specs.declared.Parted.the-variants.{Parts}
 use Rattle.supply.proofs.Covering.{supplied}
 use Rattle.supply.proofs.Refusing.{stop-day-in}
-use Rattle.need.specs.Need.{needOn, stopDay}
+use Rattle.need.specs.Need.{dueOn, needOn, stopDay}
 use Rattle.supply.specs.Covered.{covered}
 use Rattle.supply.specs.Supply.{lastingOf, judgedOf, passedOn}
 use Rattle.supply.specs.declared.Lasting.{Lasting}
@@ -32,7 +32,7 @@ use Rattle.verdict.specs.Verdict.{verdictOf}
 use Rattle.verdict.specs.declared.Answer.{Answer}
 use Rattle.verdict.specs.declared.Answer.the-variants.{Accepted, Broken}
 use Rattle.promises.specs.Demand3.{Splitting, Covers, Demand3}
-use Rattle.promises.proofs.Demand2.{answers}
+use Rattle.promises.proofs.LastDays.{answers}
 
 -- a split that is not refused
 record Parted0 (p fixed need : List ℕ) : Type 0 where
@@ -66,7 +66,7 @@ splitting p fixed need bytes e d l =
 -- how far a pack goes
 covers : (p : List ℕ) (start pack choice : ℕ) (out : Bool) (ps : List Pause) (x : Lasting) →
     passedOn (verdictOf p) (judgedOf p start pack choice out ps) ≡ Lasts x → Covers p start pack choice ps x
-unfolding lastingOf
+unfolding lastingOf needOn dueOn
 covers p start pack choice out ps x e =
     let a = answers p start pack choice out ps x e in
     let k = stopDay choice p + 1 - start in

@@ -20,7 +20,7 @@ use Rattle.plan.specs.declared.Head.{Head}
 use Rattle.layout.specs.Layout.{Written, bodyOf, laidOut}
 use Rattle.plan.specs.declared.Dose.{Dose}
 use Rattle.verdict.specs.Verdict.{planLimit}
-use Rattle.promises.specs.Plans.{head, unmarked, marked, daily, fixed, need, mixed, empty, revision}
+use Rattle.promises.specs.Plans.{head, unmarked, marked, ranging, daily, fixed, need, mixed, empty, revision}
 
 pub record DoseRight (d : Dose) : Type 0 where
   pub fits : DoseFits d
@@ -44,6 +44,14 @@ marked-right x l =
     record {
       fits = record { day = omega arith; kind = omega arith; mark = omega arith; minute = omega arith; low = omega arith; high = omega arith };
       ranged = rw (le-ltb 9999999999 x l);
+    }
+
+pub ranging-right : (x y : ℕ) → x ≤ 9999999999 → y ≤ 9999999999 → DoseRight (ranging x y)
+unfolding ranging
+ranging-right x y l m =
+    record {
+      fits = record { day = omega arith; kind = omega arith; mark = omega arith; minute = omega arith; low = omega arith; high = omega arith };
+      ranged = rw (le-ltb 9999999999 x l, le-ltb 9999999999 y m);
     }
 
 -- a period from `first` to `last`

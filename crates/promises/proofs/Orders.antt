@@ -25,12 +25,14 @@ use Rattle.register.specs.Steps.{Call, Call.clear, Call.submit, Call.sign, Call
 use Rattle.split.specs.Split.{tooSmall, lengthsOf, splitBy, splitOf, refusalIn}
 use Rattle.split.specs.declared.Parted.the-variants.{Parts, Refused}
 use Rattle.need.specs.Need.{stopDay, hasStop}
-use Rattle.supply.specs.Supply.{refusedBy as supplyRefusedBy, judgedOf, passedOn, refusalIn as supplyRefusal}
+use Rattle.supply.specs.Dates.{setBy, refusalInSet}
+use Rattle.supply.specs.Supply.{askedBy, ownBy, refusedBy as supplyRefusedBy, judgedOf, passedOn, refusalIn as supplyRefusal}
+use Rattle.supply.specs.declared.Dates.{Dates}
 use Rattle.supply.specs.declared.Supply.{Supply}
 use Rattle.verdict.specs.Verdict.{planLimit, breaks, firstRule, verdictOf, refusalOf}
 use Rattle.verdict.specs.declared.Answer.{Answer}
 use Rattle.verdict.specs.declared.Answer.the-variants.{Accepted, Broken}
-use Rattle.promises.specs.Orders.{firstGiven, rules, isBroken, supplyOrder, givenBySupply, splitOrder, givenBySplit, orderOf, givenByCall}
+use Rattle.promises.specs.Orders.{firstGiven, rules, isBroken, datesOrder, givenByDates, supplyOrder, givenBySupply, splitOrder, givenBySplit, orderOf, givenByCall}
 
 -- n numbers from i on
 upFrom : ℕ → ℕ → List ℕ
@@ -124,6 +126,16 @@ cond-number : (t : Bool) (x y : Refusal) → cond t x y .number ≡ cond t (x .n
 cond-number true x y = refl
 cond-number false x y = refl
 
+-- the set of dates
+set-number : (a : Answer) (k : ℕ) (x : Dates) → ((q : Refusal) → a ≡ Broken q → eqb (q .number) 0 ≡ false) →
+    refusalInSet (setBy a k x) .number ≡ cond (eqb (refusalOf a .number) 0) k (refusalOf a .number)
+set-number (Broken q) k x h = rw (h q refl)
+set-number (Accepted n) k x h = ⊎-elim (λ (t : eqb k 0 ≡ true). rw t (sym (eqb-true _ _ t))) (λ (t : eqb k 0 ≡ false). rw t) (bool-cases (eqb k 0))
+
+pub dates-first : (p : List ℕ) (start pack : ℕ) (out : Bool) (x : Dates) → refusalInSet (setBy (verdictOf p) (askedBy start pack out 0) x) .number ≡ firstGiven (givenByDates p start pack out) datesOrder
+unfolding firstGiven chain askedBy
+dates-first p start pack out x = set-number (verdictOf p) (askedBy start pack out 0) x (broken-number p) ∙ sym (passed-on p (askedBy start pack out 0))
+
 -- supply
 module _ (p : List ℕ) (start pack choice : ℕ) (out : Bool) (ps : List Pause) where
   judged-number : supplyRefusal (judgedOf p start pack choice out ps) .number ≡ supplyRefusedBy start pack choice out (hasStop choice p) (stopDay choice p)
@@ -136,7 +148,7 @@ module _ (p : List ℕ) (start pack choice : ℕ) (out : Bool) (ps : List Pause)
       (bool-cases (eqb k 0))
 
   pub supply-first : supplyRefusal (passedOn (verdictOf p) (judgedOf p start pack choice out ps)) .number ≡ firstGiven (givenBySupply p start pack choice out) supplyOrder
-  unfolding firstGiven chain supplyRefusedBy
+  unfolding firstGiven chain askedBy ownBy
   supply-first =
       supply-number (verdictOf p) (judgedOf p start pack choice out ps) (broken-number p) ∙
       rw judged-number (sym (passed-on p (supplyRefusedBy start pack choice out (hasStop choice p) (stopDay choice p))))

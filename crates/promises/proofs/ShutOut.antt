@@ -12,7 +12,7 @@ use Rattle.below.proofs.Tests.{true-not-false, le-or-lt, same-or-not}
 use Rattle.below.specs.Lists.{joinOver, keep}
 use Rattle.block.specs.Bytes.{byteAt, bytesOf, put}
 use Rattle.block.specs.Sums.{sealed}
-use Rattle.day.specs.Days.{namedBy, Shows, lastNumber}
+use Rattle.day.specs.Days.{openMark, namedBy, Shows, lastNumber}
 use Rattle.day.specs.declared.Date.{Date}
 use Rattle.day.specs.declared.Named.{Named}
 use Rattle.day.specs.declared.Shown.{Shown}
@@ -35,17 +35,20 @@ use Rattle.split.specs.Parts.{partBytes}
 use Rattle.split.specs.Split.{lengthsOf, splitOf, over, leftBy}
 use Rattle.split.specs.declared.Parted.the-variants.{Parts}
 use Rattle.supply.proofs.Covering.{Supplied, supplied-one, summed-le, summed-more}
-use Rattle.need.specs.Need.{needOn, stopDay}
+use Rattle.need.specs.Need.{dueOn, needOn, stopDay}
+use Rattle.supply.specs.Dates.{datesIn, datesOf, packedDatesOf}
 use Rattle.supply.specs.Supply.{supplyOf, packedSupplyOf, lastingIn}
+use Rattle.supply.specs.declared.Dates.{Dates}
 use Rattle.supply.specs.declared.Lasting.{Lasting}
 use Rattle.verdict.specs.Verdict.{verdictOf, refusalOf}
 use Rattle.promises.specs.Cases.{oneDaily, twoDaily, oneSlot, output, signedPlan, A, B}
 use Rattle.promises.specs.Demand3.{Covers}
 use Rattle.promises.specs.Plans.{plan}
 use Rattle.promises.specs.ShutOut.{aDayLater, ShutOut}
-use Rattle.promises.specs.Witnesses.{partRoom, bothMarks}
+use Rattle.promises.specs.Witnesses.{onlyNeed, partRoom, bothMarks}
 use Rattle.promises.proofs.Paper.{computed, numbered, four-ok, five-ok, slot-bytes, slot-long, output-long}
 use Rattle.promises.proofs.Releases.{Way, way}
+use Rattle.promises.proofs.Dates.{end-date, need-dates, packed-end-date, packed-need-dates}
 use Rattle.promises.proofs.Supplies.{P10, P11}
 use Rattle.promises.proofs.Verdicts.{P6, P7, P8-holes, P8-together, four-bytes, both-accepted}
 use Rattle.promises.proofs.Witnesses.{room-long, witnesses}
@@ -66,6 +69,17 @@ one-packed-last-day : (d : ℕ) → ((p : List ℕ) (start pack choice : ℕ) (s
 one-packed-last-day d h =
     let x : 8105 ≡ d = rw (P10 .2) at (h (plan oneDaily) 8077 50000 1 []) in
     let y : 8078 ≡ d = rw (P11 .2) at (h (plan twoDaily) 8077 500 1 []) in
+    omega arith
+
+-- a set of dates: one with an end date against one without
+one-set : (x : Dates) → ((p : List ℕ) (start pack : ℕ) (ps : List Pause) → datesIn (datesOf p start pack ps) ≡ x) → ⊥
+one-set x h =
+    let z : _≡_ {A = ℕ} 8105 openMark = ap (λ (y : Dates). y .end) (sym (ap datesIn end-date) ∙ h (plan oneDaily) 8077 50000 [] ∙ sym (h (plan onlyNeed) 8077 1200 []) ∙ ap datesIn need-dates) in
+    omega arith
+
+one-packed-set : (x : Dates) → ((p : List ℕ) (start pack : ℕ) (s : List ℕ) → datesIn (packedDatesOf p start pack s) ≡ x) → ⊥
+one-packed-set x h =
+    let z : _≡_ {A = ℕ} 8105 openMark = ap (λ (y : Dates). y .end) (sym (ap datesIn packed-end-date) ∙ h (plan oneDaily) 8077 50000 [] ∙ sym (h (plan onlyNeed) 8077 1200 []) ∙ ap datesIn packed-need-dates) in
     omega arith
 
 -- a day, and a date: P1 against P3
@@ -105,6 +119,7 @@ module _ (p : List ℕ) (start pack choice : ℕ) (ps : List Pause) where
       (same-or-not (x .reason) 1)
 
   is-supplied : {x : Lasting} → Covers p start pack choice ps x → Supplied (needOn choice p ps) start (stopDay choice p + 1 - start) pack (x .days) (x .rest)
+  unfolding needOn dueOn
   is-supplied {x} c =
       let need = needOn choice p ps in
       let to-the-end : start + x .days ≡ stopDay choice p + 1 → Supplied need start (stopDay choice p + 1 - start) pack (x .days) (x .rest) =
@@ -248,11 +263,15 @@ shut-out =
       refuses-plans = λ h. h _ (ap (λ (x : Refusal). x .number) (witnesses .accepted));
       refuses-supplies = λ h. h (plan oneDaily) 8077 50000 1 [] (rw (P10 .0) refl);
       refuses-packed-supplies = λ h. h (plan oneDaily) 8077 50000 1 [] (rw (P10 .2) refl);
+      refuses-dates = λ h. h (plan oneDaily) 8077 50000 [] (rw end-date refl);
+      refuses-packed-dates = λ h. h (plan oneDaily) 8077 50000 [] (rw packed-end-date refl);
       refuses-splits = λ h. h bothMarks partRoom partRoom (witnesses .parted);
       refuses-releases = λ h. h (witnesses .released .1) 1 output (eqb-true _ _ (witnesses .released .3));
       one-verdict = one-verdict;
       one-last-day = one-last-day;
       one-packed-last-day = one-packed-last-day;
+      one-set = one-set;
+      one-packed-set = one-packed-set;
       one-day = one-day;
       one-date = one-date;
       split-does-nothing = λ h. not-left false (h bothMarks partRoom partRoom);

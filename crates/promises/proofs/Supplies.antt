@@ -18,7 +18,7 @@ use Rattle.plan.specs.Fields.{doseOf, doseBytes}
 use Rattle.plan.specs.Periods.{blockAt, moreOf, dosesOf, doseIn, hasUnmarked, hasMarked, classOf}
 use Rattle.need.specs.Need.{choiceOf, dueOn, needOn, stopDayBy, hasStopBy}
 use Rattle.supply.specs.Covered.{covered}
-use Rattle.supply.specs.Supply.{lastingOf, refusedBy, judgedOf}
+use Rattle.supply.specs.Supply.{lastingOf, askedBy, ownBy, judgedOf}
 use Rattle.supply.specs.declared.Lasting.{Lasting}
 use Rattle.supply.specs.declared.Supply.the-variants.{Lasts}
 use Rattle.verdict.specs.Verdict.{verdictOf}
@@ -51,7 +51,7 @@ record All : Type 0 where
   p13 : Computed twoDaily 500 pauses13 bytes13 (record { days = 5; last = 8081; rest = 100; reason = 1 })
 
 all : All
-unfolding head unmarked daily revision oneDaily twoDaily filled headBytes periodStart doseBytes periodBlock bodyOf laidOut numberAt bytesOf put sealed listBelow joinOver firstFrom firstBelow anyBelow sumBelow largestBelow doseOf blockAt moreOf dosesOf doseIn hasUnmarked hasMarked classOf pickBelow joinBelow sumOver positionOf dosesOfPeriod dosesOn keep isPaused packedIn areOut judgedOf refusedBy lastingOf needOn dueOn choiceOf stopDayBy hasStopBy covered
+unfolding head unmarked daily revision oneDaily twoDaily filled headBytes periodStart doseBytes periodBlock bodyOf laidOut numberAt bytesOf put sealed listBelow joinOver firstFrom firstBelow anyBelow sumBelow largestBelow doseOf blockAt moreOf dosesOf doseIn hasUnmarked hasMarked classOf pickBelow joinBelow sumOver positionOf dosesOfPeriod dosesOn keep isPaused packedIn areOut judgedOf askedBy ownBy lastingOf needOn dueOn choiceOf stopDayBy hasStopBy covered
 all =
     record {
       p10 = record { low = refl; upper = refl; packed-low = refl; packed-upper = refl };

@@ -26,9 +26,10 @@ use Rattle.verdict.specs.Verdict.{planLimit, breaks, verdictOf}
 use Rattle.verdict.specs.declared.Answer.the-variants.{Accepted, Broken}
 use Rattle.verdict.specs.declared.Group.the-variants.{All}
 use Rattle.promises.specs.Cases.{oneDaily, twoDaily, signedPlan}
-use Rattle.promises.specs.Plans.{head, unmarked, marked, daily, fixed, need, mixed, empty, plan, revision}
+use Rattle.promises.specs.Plans.{head, unmarked, marked, ranging, daily, fixed, need, mixed, empty, plan, revision}
+use Rattle.promises.specs.Witnesses.{bothKinds, onlyNeed}
 use Rattle.promises.proofs.Judging.{clearFrom5, anyAfter, holes-after, together-after, is-broken, is-hole, is-accepted}
-use Rattle.promises.proofs.Laid.{PeriodRight, unmarked-right, daily-right, fixed-right, need-right, mixed-right, empty-right, laid-formed, laid-are-bytes}
+use Rattle.promises.proofs.Laid.{PeriodRight, unmarked-right, marked-right, ranging-right, daily-right, fixed-right, need-right, mixed-right, empty-right, laid-formed, laid-are-bytes}
 
 -- what is computed of a plan: it is short, no rule from 5 to 16 is broken, and whether the day after some period is a hole
 record Computed (n : ℕ) (ws : List Written) (hole : Bool) : Type 0 where
@@ -63,9 +64,11 @@ record Everything : Type 0 where
   four : Computed 4 (fixed 8000 openMark ∷ []) false
   five : Computed 5 (fixed 8000 openMark ∷ []) false
   both : Computed 1 (mixed 6547 6550 ∷ []) false
+  kinds : Computed 1 bothKinds false
+  needs : Computed 1 onlyNeed false
 
 all : Everything
-unfolding head unmarked marked daily fixed need mixed empty revision oneDaily twoDaily filled headBytes periodStart doseBytes periodBlock bodyOf laidOut numberAt bytesOf put sealed listBelow joinOver firstFrom firstBelow anyBelow countBelow sumBelow largestBelow doseBreaks tooMuch aheadOf limitOf periodBreaks doseOf blockAt moreOf dosesOf doseIn hasUnmarked hasMarked classOf bare sharesWith shares breaks meetsAt meets holeAt isMember holeAfter clearFrom5 anyAfter
+unfolding head unmarked marked ranging daily fixed need mixed empty revision oneDaily twoDaily bothKinds onlyNeed filled headBytes periodStart doseBytes periodBlock bodyOf laidOut numberAt bytesOf put sealed listBelow joinOver firstFrom firstBelow anyBelow countBelow sumBelow largestBelow doseBreaks tooMuch aheadOf limitOf periodBreaks doseOf blockAt moreOf dosesOf doseIn hasUnmarked hasMarked classOf bare sharesWith shares breaks meetsAt meets holeAt isMember holeAfter clearFrom5 anyAfter
 all =
     record {
       p6 = record { few = refl; some = refl; clear = refl; after = refl };
@@ -81,6 +84,8 @@ all =
       four = record { few = refl; some = refl; clear = refl; after = refl };
       five = record { few = refl; some = refl; clear = refl; after = refl };
       both = record { few = refl; some = refl; clear = refl; after = refl };
+      kinds = record { few = refl; some = refl; clear = refl; after = refl };
+      needs = record { few = refl; some = refl; clear = refl; after = refl };
     }
 
 -- the verdict by it
@@ -145,6 +150,22 @@ two-accepted = of-accepted (omega arith) two-daily (all .two) refl
   where
     two-daily : Every PeriodRight twoDaily
     two-daily = unfold twoDaily in more (daily-right 8000 openMark (omega arith) (omega arith) refl (more (unmarked-right 200 (omega arith)) none)) none
+
+-- the plans of the sets of dates
+pub kinds-accepted : verdictOf (plan bothKinds) ≡ Accepted (length (plan bothKinds))
+kinds-accepted = of-accepted (omega arith) both-kinds (all .kinds) refl
+  where
+    both-kinds : Every PeriodRight bothKinds
+    both-kinds =
+        unfold bothKinds in
+        more (daily-right 8000 openMark (omega arith) (omega arith) refl (more (ranging-right 100 200 (omega arith) (omega arith)) none))
+        (more (daily-right 8000 openMark (omega arith) (omega arith) refl (more (marked-right 300 (omega arith)) none)) none)
+
+pub needs-accepted : verdictOf (plan onlyNeed) ≡ Accepted (length (plan onlyNeed))
+needs-accepted = of-accepted (omega arith) only-need (all .needs) refl
+  where
+    only-need : Every PeriodRight onlyNeed
+    only-need = unfold onlyNeed in more (daily-right 8000 openMark (omega arith) (omega arith) refl (more (marked-right 300 (omega arith)) none)) none
 
 -- the plan that is signed, in both revisions
 signed-right : Every PeriodRight (fixed 8000 openMark ∷ [])

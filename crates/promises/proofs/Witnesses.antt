@@ -23,7 +23,7 @@ use Rattle.split.specs.Parts.{isOfPart, nextDosed, hasRun}
 use Rattle.split.specs.Split.{splitOf, refusalIn}
 use Rattle.need.specs.Need.{choiceOf, dueOn, needOn, stopDayBy, hasStopBy}
 use Rattle.supply.specs.Covered.{covered}
-use Rattle.supply.specs.Supply.{lastingOf, refusedBy, judgedOf}
+use Rattle.supply.specs.Supply.{lastingOf, askedBy, ownBy, judgedOf}
 use Rattle.supply.specs.declared.Supply.the-variants.{Lasts}
 use Rattle.pause.specs.Pauses.{isPaused, areOut, packedIn, pausesIn}
 use Rattle.verdict.specs.Coverage.{isMember}
@@ -33,6 +33,7 @@ use Rattle.promises.specs.Demand3.{fixedPart, needPart}
 use Rattle.promises.specs.Plans.{head, unmarked, marked, daily, fixed, need, mixed, empty, plan, revision}
 use Rattle.promises.specs.Witnesses.{partRoom, bothMarks, Witnesses}
 use Rattle.promises.proofs.Accepting.{verdicts}
+use Rattle.promises.proofs.Dates.{by-both, by-needed, four-dates, end-date, only-need, need-dates, packed-four-dates, packed-end-date, packed-need-dates}
 use Rattle.promises.proofs.Demand3.{demand3}
 use Rattle.promises.proofs.Paper.{numbered, four-ok, slot-bytes, slot-long, output-long}
 use Rattle.promises.proofs.Releases.{released-numbers, released-plan, released-ok}
@@ -48,7 +49,7 @@ record Computed : Type 0 where
   packed-calendar : judgedOf (plan twoDaily) 73047 500 2 (areOut (pausesIn [])) (pausesIn []) ≡ Lasts (record { days = 2; last = 73048; rest = 100; reason = 3 })
 
 computed : Computed
-unfolding head unmarked marked daily fixed need mixed empty revision twoDaily signedPlan filled headBytes periodStart doseBytes periodBlock bodyOf laidOut numberAt bytesOf put sealed listBelow joinOver firstFrom firstBelow anyBelow sumBelow largestBelow doseOf blockAt moreOf dosesOf doseIn hasUnmarked hasMarked classOf pickBelow joinBelow sumOver positionOf dosesOfPeriod dosesOn isPaused packedIn areOut judgedOf refusedBy lastingOf needOn dueOn choiceOf stopDayBy hasStopBy covered keep isMember nextDosed
+unfolding head unmarked marked daily fixed need mixed empty revision twoDaily signedPlan filled headBytes periodStart doseBytes periodBlock bodyOf laidOut numberAt bytesOf put sealed listBelow joinOver firstFrom firstBelow anyBelow sumBelow largestBelow doseOf blockAt moreOf dosesOf doseIn hasUnmarked hasMarked classOf pickBelow joinBelow sumOver positionOf dosesOfPeriod dosesOn isPaused packedIn areOut judgedOf askedBy ownBy lastingOf needOn dueOn choiceOf stopDayBy hasStopBy covered keep isMember nextDosed
 computed = record { run = refl; long = refl; fixed-doses = refl; need-doses = refl; calendar = refl; packed-calendar = refl }
 
 -- the split of the plan with both marks
@@ -112,4 +113,13 @@ witnesses =
       packed-needs-more = P11 .3;
       packed-dosage-ends = P10 .3;
       packed-calendar-ends = rw two-accepted (computed .packed-calendar);
+      by-both = by-both;
+      by-needed = by-needed;
+      four-dates = four-dates;
+      end-date = end-date;
+      need-only = only-need;
+      need-dates = need-dates;
+      packed-four-dates = packed-four-dates;
+      packed-end-date = packed-end-date;
+      packed-need-dates = packed-need-dates;
     }

@@ -15,13 +15,14 @@ use Rattle.pause.specs.declared.Pause.{Pause}
 use Rattle.refusal.specs.Refusals.{nowhere, alone, codeOf, doneCode}
 use Rattle.refusal.specs.declared.Refusal.{Refusal}
 use Rattle.register.specs.Steps.{Call, Call.clear, Call.submit, Call.sign, Call.release, Call.drop, Call.state, answered, after, roomAfter}
-use Rattle.screen.specs.Calls.{tooShort, code26, supplyCode, supplyOut, splitCode, splitOut, stretchOut, releasedOut, stateOut, sumsOut}
+use Rattle.screen.specs.Calls.{tooShort, code26, supplyCode, supplyOut, datesCode, datesOut, splitCode, splitOut, stretchOut, releasedOut, stateOut, sumsOut}
 use Rattle.showing.specs.Showing.{stretchOf}
 use Rattle.split.specs.Parts.{partBytes}
 use Rattle.split.specs.Split.{splitOf, refusalIn, leftBy}
+use Rattle.supply.specs.Dates.{refusalInSet, datesOf, packedDatesOf}
 use Rattle.supply.specs.Supply.{supplyOf, packedSupplyOf, refusalIn as supplyRefusal}
 use Rattle.verdict.specs.Verdict.{verdictOf, refusalOf, codeOfAnswer}
-use Rattle.promises.specs.Orders.{firstGiven, rules, isBroken, supplyOrder, givenBySupply, splitOrder, givenBySplit, orderOf, givenByCall, givenByScreen}
+use Rattle.promises.specs.Orders.{firstGiven, rules, isBroken, datesOrder, givenByDates, supplyOrder, givenBySupply, splitOrder, givenBySplit, orderOf, givenByCall, givenByScreen}
 
 -- a call is refused: its number is not 0
 abbrev pub Refused : Refusal → Type 0
@@ -46,11 +47,14 @@ pub record Calls : Type 0 where
   pub verdict-order : (p : List ℕ) → refusalOf (verdictOf p) .number ≡ firstGiven (isBroken p) rules
   pub supply-order : (p : List ℕ) (start pack choice : ℕ) (ps : List Pause) →
       supplyRefusal (supplyOf p start pack choice ps) .number ≡ firstGiven (givenBySupply p start pack choice (areOut ps)) supplyOrder
+  pub dates-order : (p : List ℕ) (start pack : ℕ) (ps : List Pause) →
+      refusalInSet (datesOf p start pack ps) .number ≡ firstGiven (givenByDates p start pack (areOut ps)) datesOrder
   pub split-order : (p fixed need : List ℕ) → refusalIn (splitOf p fixed need) .number ≡ firstGiven (givenBySplit p fixed need) splitOrder
   pub register-order : (r : List ℕ) (c : Call) → answered r c .refusal .number ≡ firstGiven (givenByCall r c) (orderOf c)
   -- with its place
   pub supply-place : (p : List ℕ) (start pack choice : ℕ) (ps : List Pause) →
       Placed (refusalOf (verdictOf p)) (supplyRefusal (supplyOf p start pack choice ps))
+  pub dates-place : (p : List ℕ) (start pack : ℕ) (ps : List Pause) → Placed (refusalOf (verdictOf p)) (refusalInSet (datesOf p start pack ps))
   pub split-place : (p fixed need : List ℕ) → Placed (refusalOf (verdictOf p)) (refusalIn (splitOf p fixed need))
   pub register-place : (r : List ℕ) (c : Call) → Placed (verdictIn c) (answered r c .refusal)
   -- "and the register and the output buffers stay unchanged.": split's two buffers, the register, and the buffer of a release
@@ -77,6 +81,11 @@ pub record ScreenCalls : Type 0 where
       Screened (refusalOf (verdictOf p)) (cond (tooShort 32 out) code26 (supplyCode x))
       (givenByScreen 32 out (givenBySupply p start pack choice (not (eqb (length s % 8) 0) || areOut (pausesIn s)))) (26 ∷ supplyOrder)
       (cond (tooShort 32 out) out (supplyOut out x) ≡ out)
+  pub dates : (p : List ℕ) (start pack : ℕ) (s out : List ℕ) →
+      let x = packedDatesOf p start pack s in
+      Screened (refusalOf (verdictOf p)) (cond (tooShort 40 out) code26 (datesCode x))
+      (givenByScreen 40 out (givenByDates p start pack (not (eqb (length s % 8) 0) || areOut (pausesIn s)))) (26 ∷ datesOrder)
+      (cond (tooShort 40 out) out (datesOut out x) ≡ out)
   pub split : (p fixed need out : List ℕ) →
       let x = splitOf p fixed need in
       Screened (refusalOf (verdictOf p)) (cond (tooShort 16 out) code26 (splitCode x)) (givenByScreen 16 out (givenBySplit p fixed need)) (26 ∷ splitOrder)

@@ -22,12 +22,14 @@ use Rattle.register.specs.Steps.{Call.state, done, answered, nothingBut}
 use Rattle.split.specs.Parts.{groupOf, isDosedIn, runFirst, runLast, hasRun, partOf, partBytes}
 use Rattle.need.specs.Need.{needOn, stopDay}
 use Rattle.supply.specs.Covered.{summed}
+use Rattle.supply.specs.Dates.{datesOf, packedDatesOf}
 use Rattle.supply.specs.Supply.{supplyOf, packedSupplyOf}
 use Rattle.supply.specs.declared.Lasting.{Lasting}
 use Rattle.supply.specs.declared.Supply.the-variants.{Lasts}
 use Rattle.verdict.specs.Coverage.{meets, holeAt}
 use Rattle.verdict.specs.Verdict.{breaks, verdictOf, refusalOf}
 use Rattle.promises.specs.Orders.{isBroken}
+use Rattle.promises.specs.Sets.{Sets}
 
 -- the plan is accepted: number 0, which has place 255
 abbrev pub IsAccepted : List ℕ → Type 0
@@ -94,5 +96,10 @@ pub record Demand2 : Type 0 where
       supplyOf p start pack choice ps ≡ Lasts x → LastCovered p start pack choice ps x
   pub packed-last-covered-day : (p : List ℕ) (start pack choice : ℕ) (s : List ℕ) (x : Lasting) →
       packedSupplyOf p start pack choice s ≡ Lasts x → LastCovered p start pack choice (pausesIn s) x
+  -- and of the set of dates, likewise
+  pub dates : (p : List ℕ) (start pack : ℕ) (ps : List Pause) →
+      Sets p start (λ choice. supplyOf p start pack choice ps) (datesOf p start pack ps)
+  pub packed-dates : (p : List ℕ) (start pack : ℕ) (s : List ℕ) →
+      Sets p start (λ choice. packedSupplyOf p start pack choice s) (packedDatesOf p start pack s)
   -- "and every register answer"
   pub register-answers : (h : List Event) (r : List ℕ) → Reached h r → Registers h r

@@ -5,21 +5,21 @@
 -- fixed doses of all covered days at the chosen amount, paused days counting nothing, plus the rest, and the next day needs more
 -- than the rest, or the dosage or the calendar ends there."
 use Prim.Native.Nat.{ℕ, _+_, _≤_, _<_}
-use mathlib.Core.Bool.{true, false}
+use mathlib.Core.Bool.{true, false, cond}
 use mathlib.Core.List.{List}
 use mathlib.Core.Path.{_≡_}
 use lib.ListN.{take}
 use Rattle.below.specs.Below.{sumBelow}
-use Rattle.below.specs.Lists.{keep}
+use Rattle.below.specs.Lists.{keep, sumOver}
 use Rattle.day.specs.Days.{lastNumber}
 use Rattle.doses.specs.Doses.{dosesOn}
-use Rattle.pause.specs.Pauses.{pausesIn}
+use Rattle.pause.specs.Pauses.{isPaused, pausesIn}
 use Rattle.pause.specs.declared.Pause.{Pause}
 use Rattle.register.specs.Promise.{SlotPromise}
 use Rattle.register.specs.Reached.{IsBytes}
 use Rattle.split.specs.Parts.{isOfPart, partBytes}
 use Rattle.split.specs.Split.{splitOf, refusalIn, lengthsIn, leftBy}
-use Rattle.need.specs.Need.{needOn, stopDay}
+use Rattle.need.specs.Need.{choiceOf, stopDay}
 use Rattle.supply.specs.Supply.{supplyOf, packedSupplyOf}
 use Rattle.supply.specs.declared.Lasting.{Lasting}
 use Rattle.supply.specs.declared.Supply.the-variants.{Lasts}
@@ -40,13 +40,16 @@ Splitting =
     (dosesOn (fixedPart p fixed need) d ≡ keep (isOfPart false) (dosesOn p d))
     × (dosesOn (needPart p fixed need) d ≡ keep (isOfPart true) (dosesOn p d))
 
--- `needOn` is what a day needs, over document 01's doses of a day: "the sum of its unmarked amounts as chosen, 0 on a paused day"
+-- what a day takes from the pack, over document 01's doses of a day. W1: "Demand 3's sum reads "the doses of the choice"."
+abbrev pub takenOn : ℕ → List ℕ → List Pause → ℕ → ℕ
+takenOn choice p ps d = cond (isPaused ps d) 0 (sumOver (choiceOf choice .amount) (keep (choiceOf choice .counts) (dosesOn p d)))
+
 pub record Covers (p : List ℕ) (start pack choice : ℕ) (ps : List Pause) (x : Lasting) : Type 0 where
   -- "the pack equals the fixed doses of all covered days at the chosen amount, paused days counting nothing, plus the rest"
-  pub sum : pack ≡ sumBelow (x .days) (λ i. needOn choice p ps (start + i)) + x .rest
+  pub sum : pack ≡ sumBelow (x .days) (λ i. takenOn choice p ps (start + i)) + x .rest
   -- "and the next day needs more than the rest": reason 1
-  pub needs-more : x .reason ≡ 1 → (start + x .days ≤ stopDay choice p) × (x .rest < needOn choice p ps (start + x .days))
-  -- "or the dosage .. ends there": reason 2, the covered days end with the last day of any fixed or mixed period
+  pub needs-more : x .reason ≡ 1 → (start + x .days ≤ stopDay choice p) × (x .rest < takenOn choice p ps (start + x .days))
+  -- "or the dosage .. ends there": reason 2, the covered days end with the choice's stop day
   pub dosage-ends : x .reason ≡ 2 → (start + x .days ≡ stopDay choice p + 1) × (stopDay choice p < lastNumber)
   -- "or the calendar ends there": reason 3, that day is the calendar's last
   pub calendar-ends : x .reason ≡ 3 → (start + x .days ≡ stopDay choice p + 1) × (stopDay choice p ≡ lastNumber)

@@ -14,7 +14,7 @@ use Rattle.register.specs.Sound.{sound}
 use Rattle.register.specs.Steps.{Call, Call.clear, Call.submit, Call.sign, Call.release, Call.drop, Call.state, isStale, isFull, same}
 use Rattle.screen.specs.Calls.{tooShort}
 use Rattle.split.specs.Split.{tooSmall}
-use Rattle.need.specs.Need.{stopDay, hasStop}
+use Rattle.need.specs.Need.{isChoice, stopDay, hasStop}
 use Rattle.verdict.specs.Verdict.{planLimit, breaks}
 
 -- the first number of an order that is given, or 0 where none is
@@ -30,18 +30,26 @@ rules = 1 ∷ 2 ∷ 3 ∷ 4 ∷ 5 ∷ 6 ∷ 7 ∷ 8 ∷ 9 ∷ 10 ∷ 11 ∷ 12 �
 abbrev pub isBroken : List ℕ → ℕ → Bool
 isBroken p k = cond (eqb k 1) (badLength planLimit p) (anyBelow (blocksOf p) (breaks p k))
 
--- supply: "After the verdict, in order: 20 ..; 21 ..; 22 ..; 23 ..; 24 .."
+-- W1: "the set is refused by 1 to 17 and 20 to 22 only"
+abbrev pub datesOrder : List ℕ
+datesOrder = rules ++ (20 ∷ 21 ∷ 22 ∷ [])
+
+abbrev pub givenByDates : List ℕ → ℕ → ℕ → Bool → ℕ → Bool
+givenByDates p start pack pausesOut k =
+    cond (eqb k 20) (ltb 1000000000000 pack)
+    (cond (eqb k 21) pausesOut
+    (cond (eqb k 22) (not (isDay start))
+    (isBroken p k)))
+
+-- supply: "After the verdict, in order: 20 ..; 21 ..; 22 ..; 23 ..; 24 .."; W1: "23 now means not 1 to 4; 24 reads the choice's own stop day"
 abbrev pub supplyOrder : List ℕ
 supplyOrder = rules ++ (20 ∷ 21 ∷ 22 ∷ 23 ∷ 24 ∷ [])
 
 abbrev pub givenBySupply : List ℕ → ℕ → ℕ → ℕ → Bool → ℕ → Bool
 givenBySupply p start pack choice pausesOut k =
-    cond (eqb k 20) (ltb 1000000000000 pack)
-    (cond (eqb k 21) pausesOut
-    (cond (eqb k 22) (not (isDay start))
-    (cond (eqb k 23) (not (eqb choice 1 || eqb choice 2))
+    cond (eqb k 23) (not (isChoice choice))
     (cond (eqb k 24) (not (hasStop choice p) || ltb (stopDay choice p) start)
-    (isBroken p k)))))
+    (givenByDates p start pack pausesOut k))
 
 -- split: "else 25, after the verdict"
 abbrev pub splitOrder : List ℕ

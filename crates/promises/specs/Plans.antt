@@ -17,6 +17,10 @@ unmarked amount = record { day = 1; kind = 1; mark = 0; minute = 0; low = amount
 unfoldable pub marked : ℕ → Dose
 marked amount = record { day = 1; kind = 2; mark = 1; minute = 0; low = amount; high = 0 }
 
+-- "from .. to", unmarked in the morning
+unfoldable pub ranging : ℕ → ℕ → Dose
+ranging low high = record { day = 1; kind = 1; mark = 0; minute = 0; low = low; high = high }
+
 unfoldable pub daily : ℕ → ℕ → List Dose → Written
 daily first last ds = record { header = record { interval = 1; first = first; end = last }; doses = ds }
 

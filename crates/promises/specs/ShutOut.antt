@@ -18,7 +18,9 @@ use Rattle.register.specs.Steps.{Call.submit, Call.sign, Call.release, isDone, 
 use Rattle.split.specs.Days.{dosesOnDay}
 use Rattle.split.specs.Parts.{partBytes}
 use Rattle.split.specs.Split.{splitOf, refusalIn, leftBy}
+use Rattle.supply.specs.Dates.{refusalInSet, datesIn, datesOf, packedDatesOf}
 use Rattle.supply.specs.Supply.{supplyOf, packedSupplyOf, refusalIn as supplyRefusal, lastingIn}
+use Rattle.supply.specs.declared.Dates.{Dates}
 use Rattle.supply.specs.declared.Lasting.{Lasting}
 use Rattle.verdict.specs.Coverage.{holes, hole}
 use Rattle.verdict.specs.Verdict.{verdictOf, refusalOf}
@@ -39,12 +41,16 @@ pub record ShutOut : Type 0 where
   pub refuses-plans : ((p : List ℕ) → Refused (refusalOf (verdictOf p))) → ⊥
   pub refuses-supplies : ((p : List ℕ) (start pack choice : ℕ) (ps : List Pause) → Refused (supplyRefusal (supplyOf p start pack choice ps))) → ⊥
   pub refuses-packed-supplies : ((p : List ℕ) (start pack choice : ℕ) (s : List ℕ) → Refused (supplyRefusal (packedSupplyOf p start pack choice s))) → ⊥
+  pub refuses-dates : ((p : List ℕ) (start pack : ℕ) (ps : List Pause) → Refused (refusalInSet (datesOf p start pack ps))) → ⊥
+  pub refuses-packed-dates : ((p : List ℕ) (start pack : ℕ) (s : List ℕ) → Refused (refusalInSet (packedDatesOf p start pack s))) → ⊥
   pub refuses-splits : ((p fixed need : List ℕ) → Refused (refusalIn (splitOf p fixed need))) → ⊥
   pub refuses-releases : ((r : List ℕ) (n : ℕ) (room : List ℕ) → Refused (answered r (release n room) .refusal)) → ⊥
   -- "one fixed verdict or date (demand 2, P6 against P7)"
   pub one-verdict : (x : Refusal) → ((p : List ℕ) → refusalOf (verdictOf p) ≡ x) → ⊥
   pub one-last-day : (d : ℕ) → ((p : List ℕ) (start pack choice : ℕ) (ps : List Pause) → lastingIn (supplyOf p start pack choice ps) .last ≡ d) → ⊥
   pub one-packed-last-day : (d : ℕ) → ((p : List ℕ) (start pack choice : ℕ) (s : List ℕ) → lastingIn (packedSupplyOf p start pack choice s) .last ≡ d) → ⊥
+  pub one-set : (x : Dates) → ((p : List ℕ) (start pack : ℕ) (ps : List Pause) → datesIn (datesOf p start pack ps) ≡ x) → ⊥
+  pub one-packed-set : (x : Dates) → ((p : List ℕ) (start pack : ℕ) (s : List ℕ) → datesIn (packedDatesOf p start pack s) ≡ x) → ⊥
   pub one-day : (x : Named) → ((d : Date) → namedBy d ≡ x) → ⊥
   pub one-date : (x : Shown) → ((n : ℕ) → Shows n x) → ⊥
   -- "a split or sign that does nothing (demands 2 and 3)"

@@ -1,11 +1,13 @@
 -- No promise holds for want of a case: a plan that is accepted and one that is not, a history that does release, a plan with doses
--- in both parts on one day, and supplies that cover days and stop for each reason.
+-- in both parts on one day, supplies that cover days and stop for each reason, and sets of dates of each kind.
 use Prim.Native.Nat.{ℕ}
 use mathlib.Core.Bool.{true, false}
 use mathlib.Core.List.{List, [], _∷_}
 use mathlib.Core.Path.{_≡_}
 use lib.ListN.{length, replicate}
+use Rattle.day.specs.Days.{openMark}
 use Rattle.doses.specs.Doses.{dosesOn}
+use Rattle.layout.specs.Layout.{Written}
 use Rattle.register.specs.History.{Event, isOk}
 use Rattle.register.specs.Promise.{givenBy}
 use Rattle.register.specs.Reached.{seen, IsBytes, Reached}
@@ -13,12 +15,15 @@ use Rattle.register.specs.Runs.{numbersOf}
 use Rattle.register.specs.Steps.{Call.clear, Call.submit, Call.sign, Call.release}
 use Rattle.split.specs.Parts.{hasRun}
 use Rattle.split.specs.Split.{splitOf, refusalIn}
+use Rattle.supply.specs.Dates.{datesOf, packedDatesOf}
 use Rattle.supply.specs.Supply.{supplyOf, packedSupplyOf}
+use Rattle.supply.specs.declared.DateSet.the-variants.{Given}
 use Rattle.supply.specs.declared.Supply.the-variants.{Lasts}
 use Rattle.promises.specs.Cases.{oneDaily, twoDaily, oneSlot, output, signedPlan, A, B}
 use Rattle.promises.specs.Demand2.{IsAccepted, IsLowest}
 use Rattle.promises.specs.Demand3.{fixedPart, needPart}
-use Rattle.promises.specs.Plans.{unmarked, marked, fixed, mixed, empty, plan}
+use Rattle.promises.specs.Plans.{unmarked, marked, ranging, daily, fixed, mixed, empty, plan}
+use Rattle.promises.specs.Sets.{NeedOnly}
 
 -- a buffer for a part
 unfoldable pub partRoom : List ℕ
@@ -26,6 +31,13 @@ partRoom = replicate 32768 0
 
 abbrev pub bothMarks : List ℕ
 bothMarks = plan (mixed 6547 6550 ∷ [])
+
+-- 1.00 to 2.00 daily, and 3.00 daily as needed; the latter by itself
+unfoldable pub bothKinds : List Written
+bothKinds = daily 8000 openMark (ranging 100 200 ∷ []) ∷ daily 8000 openMark (marked 300 ∷ []) ∷ []
+
+unfoldable pub onlyNeed : List Written
+onlyNeed = daily 8000 openMark (marked 300 ∷ []) ∷ []
 
 pub record Witnesses : Type 0 where
   -- demands 1 and 2: P7 is accepted, P9 breaks rule 16 at block 2, and P7's fixed part has a run
@@ -49,3 +61,14 @@ pub record Witnesses : Type 0 where
   pub packed-needs-more : packedSupplyOf (plan twoDaily) 8077 500 2 [] ≡ Lasts (record { days = 2; last = 8078; rest = 100; reason = 1 })
   pub packed-dosage-ends : packedSupplyOf (plan oneDaily) 8077 50000 2 [] ≡ Lasts (record { days = 29; last = 8105; rest = 47100; reason = 2 })
   pub packed-calendar-ends : packedSupplyOf (plan twoDaily) 73047 500 2 [] ≡ Lasts (record { days = 2; last = 73048; rest = 100; reason = 3 })
+  -- W1: a supply by each of its two choices; a set with a minimum, a maximum and dates 3 and 4, all different, one with an end date, and
+  -- one of a need-only plan; with a list of pauses and in the call that the screen makes
+  pub by-both : supplyOf (plan bothKinds) 8077 1200 3 [] ≡ Lasts (record { days = 2; last = 8078; rest = 200; reason = 1 })
+  pub by-needed : supplyOf (plan bothKinds) 8077 1200 4 [] ≡ Lasts (record { days = 4; last = 8080; rest = 0; reason = 1 })
+  pub four-dates : datesOf (plan bothKinds) 8077 1200 [] ≡ Given (record { end = openMark; minimum = 8088; maximum = 8082; third = 8078; fourth = 8080 })
+  pub end-date : datesOf (plan oneDaily) 8077 50000 [] ≡ Given (record { end = 8105; minimum = openMark; maximum = openMark; third = openMark; fourth = openMark })
+  pub need-only : NeedOnly (plan onlyNeed)
+  pub need-dates : datesOf (plan onlyNeed) 8077 1200 [] ≡ Given (record { end = openMark; minimum = openMark; maximum = openMark; third = 8080; fourth = 8080 })
+  pub packed-four-dates : packedDatesOf (plan bothKinds) 8077 1200 [] ≡ Given (record { end = openMark; minimum = 8088; maximum = 8082; third = 8078; fourth = 8080 })
+  pub packed-end-date : packedDatesOf (plan oneDaily) 8077 50000 [] ≡ Given (record { end = 8105; minimum = openMark; maximum = openMark; third = openMark; fourth = openMark })
+  pub packed-need-dates : packedDatesOf (plan onlyNeed) 8077 1200 [] ≡ Given (record { end = openMark; minimum = openMark; maximum = openMark; third = 8080; fourth = 8080 })

@@ -8,6 +8,8 @@ use Rattle.block.specs.Bytes.{bytesOf, put}
 use Rattle.refusal.specs.Refusals.{alone, codeOf, doneCode}
 use Rattle.verdict.specs.declared.Answer.{Answer}
 use Rattle.verdict.specs.declared.Answer.the-variants.{Accepted, Broken}
+use Rattle.supply.specs.declared.DateSet.{DateSet}
+use Rattle.supply.specs.declared.DateSet.the-variants as set
 use Rattle.supply.specs.declared.Supply.{Supply}
 use Rattle.supply.specs.declared.Supply.the-variants as supply
 use Rattle.split.specs.declared.Parted.{Parted}
@@ -15,9 +17,9 @@ use Rattle.split.specs.declared.Parted.the-variants as split
 use Rattle.showing.specs.declared.Stretch.{Stretch}
 use Rattle.register.specs.Steps.{Answered, isDone}
 
--- the version of include/chivetassel.h that these calls are declared in, 1.0.0: 10,000 times its first number, 100 times its second, and its third
+-- the version of include/chivetassel.h that these calls are declared in, 1.1.0: 10,000 times its first number, 100 times its second, and its third
 abbrev pub version : ℕ
-version = 10000
+version = 10100
 
 -- a buffer with numbers of 64 bits from byte i on
 unfoldable pub written : List ℕ → ℕ → List ℕ → List ℕ
@@ -39,6 +41,15 @@ supplyCode (supply.Refused r) = codeOf r
 abbrev pub supplyOut : List ℕ → Supply → List ℕ
 supplyOut out (supply.Lasts x) = written out 0 (x .days ∷ x .last ∷ x .rest ∷ x .reason ∷ [])
 supplyOut out (supply.Refused r) = out
+
+-- W1, "A single call gives the set": end, minimum, maximum, date 3 and date 4, the open mark where a date is absent
+abbrev pub datesCode : DateSet → ℕ
+datesCode (set.Given x) = doneCode
+datesCode (set.Refused r) = codeOf r
+
+abbrev pub datesOut : List ℕ → DateSet → List ℕ
+datesOut out (set.Given x) = written out 0 (x .end ∷ x .minimum ∷ x .maximum ∷ x .third ∷ x .fourth ∷ [])
+datesOut out (set.Refused r) = out
 
 -- split: "The answer is both parts' lengths in bytes"
 abbrev pub splitCode : Parted → ℕ

@@ -12,7 +12,9 @@ use register::submit;
 use showing::stretch_of;
 use split::Parted;
 use split::split;
+use supply::DateSet;
 use supply::Supply;
+use supply::dates_packed;
 use supply::supply_packed;
 use verdict::Answer;
 use verdict::refusal_of;
@@ -22,20 +24,21 @@ ghost use mathlib.Core.Bool.{true, false, cond};
 ghost use mathlib.Core.List.{[], _∷_};
 ghost use Rattle.verdict.specs.Verdict.{verdictOf, codeOfAnswer};
 ghost use Rattle.doses.specs.Doses.{daySums};
+ghost use Rattle.supply.specs.Dates.{packedDatesOf};
 ghost use Rattle.supply.specs.Supply.{packedSupplyOf};
 ghost use Rattle.refusal.specs.Refusals.{codeOf, doneCode};
 ghost use Rattle.split.specs.Parts.{partBytes};
 ghost use Rattle.split.specs.Split.{splitOf, leftBy};
 ghost use Rattle.showing.specs.Showing.{stretchOf};
 ghost use Rattle.register.specs.Steps.{Call.clear, Call.submit, Call.sign, Call.release, Call.drop as dropped, Call.state, answered, after, roomAfter};
-ghost use Rattle.screen.specs.Calls.{version, written, tooShort, code26, supplyCode, supplyOut, splitCode, splitOut, stretchOut, releasedOut, stateOut, sumsOut};
+ghost use Rattle.screen.specs.Calls.{version, written, tooShort, code26, supplyCode, supplyOut, datesCode, datesOut, splitCode, splitOut, stretchOut, releasedOut, stateOut, sumsOut};
 
 // The version of the header that declares these calls, so that a caller sees whether this library is that header's.
 #[no_mangle]
 pub extern "C" fn chivetassel_version() -> u32
     ensures { λ r. ⌜ r ≡ version ⌝ }
 {
-    10000
+    10100
 }
 
 // The verdict on a plan: the number plus 256 times the place.
@@ -84,6 +87,45 @@ pub extern "C" fn chivetassel_supply(
         Supply::Refused(r) => r.code(),
         Supply::Lasts(x) => {
             put_four(out, x.days as u64, x.last as u64, x.rest, x.reason as u64);
+            done()
+        }
+    }
+}
+
+// Five of them.
+fn put_five(out: &mut [u8], a: u64, b: u64, c: u64, d: u64, e: u64)
+    ensures { λ _. ⌜ now (out .exit) ≡ written (now (out .entry)) 0 (a ∷ b ∷ c ∷ d ∷ e ∷ []) ⌝ }
+{
+    put_four(&mut *out, a, b, c, d);
+    put_long(&mut *out, 32, e);
+}
+
+// The dates that the counter wants.
+#[no_mangle]
+pub extern "C" fn chivetassel_dates(
+    plan: &[u8],
+    start: u32,
+    pack: u64,
+    pauses: &[u8],
+    out: &mut [u8],
+) -> u32
+    ensures { λ r. ⌜ r ≡ cond (tooShort 40 (now (out .entry))) code26 (datesCode (packedDatesOf (now (plan .entry)) start pack (now (pauses .entry)))) ⌝ }
+    ensures { λ _. ⌜ now (out .exit) ≡ cond (tooShort 40 (now (out .entry))) (now (out .entry)) (datesOut (now (out .entry)) (packedDatesOf (now (plan .entry)) start pack (now (pauses .entry)))) ⌝ }
+{
+    if out.len() < 40 {
+        return Refusal::alone(26).code();
+    }
+    match dates_packed(plan, start, pack, pauses) {
+        DateSet::Refused(r) => r.code(),
+        DateSet::Given(x) => {
+            put_five(
+                out,
+                x.end as u64,
+                x.minimum as u64,
+                x.maximum as u64,
+                x.third as u64,
+                x.fourth as u64,
+            );
             done()
         }
     }

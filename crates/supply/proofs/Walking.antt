@@ -11,14 +11,16 @@ use Rattle.below.proofs.Tests.{bool-cases, true-not-false, le-or-lt}
 use Rattle.day.specs.Days.{openMark}
 use Rattle.need.specs.Need.{dueOn, needOn}
 use Rattle.pause.specs.declared.Pause.{Pause}
-use Rattle.pause.specs.Pauses.{areOut, isPaused}
+use Rattle.pause.specs.Pauses.{isPaused}
 use Rattle.refusal.specs.declared.Refusal.{Refusal}
+use Rattle.supply.specs.declared.ask.Asked.{Asked}
 use Rattle.supply.specs.declared.Lasting.{Lasting}
 use Rattle.supply.specs.declared.Supply.the-variants.{Lasts, Refused}
 use Rattle.supply.specs.declared.walk.Walk.{Walk}
-use Rattle.supply.specs.Supply.{lastingOf, supplyOf}
+use Rattle.supply.specs.Supply.{lastingOf}
+use Rattle.supply.specs.code.Asking.{answeredBy, Begun}
 use Rattle.supply.specs.code.Standing.{Known}
-use Rattle.supply.specs.code.Walking.{Going, Ready, Begun, Stepped, Ended, lastingAt, endedOf}
+use Rattle.supply.specs.code.Walking.{Going, Ready, Stepped, Ended, lastingAt, endedOf}
 use Rattle.supply.proofs.Covering.{Walked, walk-begins, walk-goes-on, lasting-short, lasting-long}
 
 -- ---- one day of a walk that has shown that the days ahead of its own are covered
@@ -184,8 +186,8 @@ module _ (choice : ℕ) (p : List ℕ) (ps : List Pause) where
         }
 
 -- ---- the answer
-module _ (p : List ℕ) (start pack choice : ℕ) (ps : List Pause) (b w : Walk) (begun : Begun p start pack choice (areOut ps) b) (over : Ended choice p ps b w) where
-  pub answers : endedOf w ≡ supplyOf p start pack choice ps
+module _ (p : List ℕ) (a : Asked) (choice : ℕ) (ps : List Pause) (b w : Walk) (begun : Begun p a choice b) (over : Ended choice p ps b w) where
+  pub answers : endedOf w ≡ answeredBy p a choice ps
   answers =
       ⊎-elim
       (λ (e : b .refused ≡ true).

@@ -7,7 +7,7 @@ use lib.ListN.{length}
 use Rattle.day.specs.Days.{lastNumber, openMark, isDay}
 use Rattle.refusal.specs.declared.Refusal.{Refusal}
 use Rattle.refusal.specs.Refusals.{alone}
-use Rattle.need.specs.Need.{needOn, stopDay, hasStop}
+use Rattle.need.specs.Need.{isChoice, needOn, stopDay, hasStop}
 use Rattle.pause.specs.declared.Pause.{Pause}
 use Rattle.pause.specs.Pauses.{areOut, pausesIn}
 use Rattle.verdict.specs.declared.Answer.{Answer}
@@ -31,16 +31,26 @@ lastingOf need start stop pack =
       reason = cond (ltb days k) 1 (cond (eqb stop lastNumber) 3 2);
     }
 
--- "After the verdict, in order: 20 pack above 1,000,000,000,000; 21 more than 32 pauses, ..; 22 start above 73,048; 23 choice
--- not 1 or 2; 24 no fixed or mixed period, or start after the stop day.": the first that is given, 0 where none is
-unfoldable pub refusedBy : ℕ → ℕ → ℕ → Bool → Bool → ℕ → ℕ
-refusedBy start pack choice pausesOut anyStop stop =
+-- "After the verdict, in order: 20 pack above 1,000,000,000,000; 21 more than 32 pauses, ..; 22 start above 73,048": the first that is
+-- given, and else what comes behind these
+unfoldable pub askedBy : ℕ → ℕ → Bool → ℕ → ℕ
+askedBy start pack pausesOut behind =
     cond (ltb 1000000000000 pack) 20
     (cond pausesOut 21
     (cond (not (isDay start)) 22
-    (cond (not (eqb choice 1 || eqb choice 2)) 23
+    behind))
+
+-- "23 choice not 1 or 2; 24 no fixed or mixed period, or start after the stop day."; W1: "23 now means not 1 to 4; 24 reads the choice's
+-- own stop day": the first that is given, 0 where none is
+unfoldable pub ownBy : ℕ → ℕ → Bool → ℕ → ℕ
+ownBy start choice anyStop stop =
+    cond (not (isChoice choice)) 23
     (cond (not anyStop || ltb stop start) 24
-    0))))
+    0)
+
+-- all of them, in their order
+abbrev pub refusedBy : ℕ → ℕ → ℕ → Bool → Bool → ℕ → ℕ
+refusedBy start pack choice pausesOut anyStop stop = askedBy start pack pausesOut (ownBy start choice anyStop stop)
 
 -- what supply answers once the plan is accepted
 unfoldable pub judgedOf : List ℕ → ℕ → ℕ → ℕ → Bool → List Pause → Supply

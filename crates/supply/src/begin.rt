@@ -1,38 +1,37 @@
-// Where the walk begins: the verdict, then refusals 20 to 24 in their order, and else the first day.
+// Where the walk by a choice begins: the choice's own refusals, 23 and 24, and else the first day.
+use crate::ask::Asked;
 use crate::place::NO_PERIOD;
 use crate::place::NO_PLACE;
 use crate::today::Today;
 use crate::today::on_day;
 use crate::walk::Walk;
-use day::Day;
 use need::Stop;
+use need::is_choice;
 use need::stop_of;
 use refusal::Refusal;
-use verdict::Answer;
-use verdict::refusal_of;
-use verdict::verdict_with_classes;
 ghost use mathlib.Core.Path.{_≡_};
 ghost use mathlib.Core.Bool.{true, false};
-ghost use Rattle.supply.specs.Supply.{refusedBy};
-ghost use Rattle.supply.specs.code.Walking.{Begun};
+ghost use Rattle.supply.specs.Supply.{ownBy};
+ghost use Rattle.supply.specs.code.Asking.{isAsked, Judged, Begun};
 
-// The largest pack.
-const PACK_LIMIT: u64 = 1000000000000;
-
-// The first refusal after the verdict, 0 where there is none.
-fn refused_by(start: u32, pack: u64, choice: u32, out: bool, stop: Stop) -> u8
-    ensures { λ r. ⌜ r ≡ refusedBy start pack choice out (stop .any) (stop .day) ⌝ }
+// Is the choice asked for?
+fn is_asked(a: Asked, choice: u32) -> bool
+    ensures { λ r. ⌜ r ≡ isAsked a choice ⌝ }
 {
-    if PACK_LIMIT < pack {
-        return 20;
+    if choice == 2 {
+        return a.upper;
     }
-    if out {
-        return 21;
+    if 2 < choice {
+        return a.needed;
     }
-    if !Day::new(start).is_day() {
-        return 22;
-    }
-    if !((choice == 1) | (choice == 2)) {
+    true
+}
+
+// The first of 23 and 24, 0 where there is none.
+fn own_by(start: u32, choice: u32, stop: Stop) -> u8
+    ensures { λ r. ⌜ r ≡ ownBy start choice (stop .any) (stop .day) ⌝ }
+{
+    if !is_choice(choice) {
         return 23;
     }
     if !stop.any | (stop.day < start) {
@@ -64,18 +63,20 @@ fn refused(refusal: Refusal) -> Walk
     }
 }
 
-// The walk as it begins, or refused. `out` says that 21 is due, in its turn.
-pub(crate) fn begin(plan: &[u8], start: u32, pack: u64, choice: u32, out: bool) -> Walk
-    ensures { λ w. ⌜ Begun (now (plan .entry)) start pack choice out w ⌝ }
+// The walk as it begins, or refused. A choice that is not asked for is refused as no choice.
+pub(crate) fn begin(plan: &[u8], asked: Asked, choice: u32) -> Walk
+    requires { ⌜ Judged (now plan) asked ⌝ }
+    ensures { λ w. ⌜ Begun (now (plan .entry)) asked choice w ⌝ }
 {
-    let judged = verdict_with_classes(plan);
-    let answer = judged.answer;
-    let Answer::Accepted(_) = answer else {
-        return refused(refusal_of(answer));
-    };
-    let classes = judged.classes;
+    if asked.refused {
+        return refused(asked.refusal);
+    }
+    if !is_asked(asked, choice) {
+        return refused(Refusal::alone(23));
+    }
+    let classes = asked.classes;
     let stop = stop_of(plan, choice, classes);
-    let number = refused_by(start, pack, choice, out, stop);
+    let number = own_by(asked.start, choice, stop);
     if number != 0 {
         return refused(Refusal::alone(number));
     }
@@ -83,10 +84,10 @@ pub(crate) fn begin(plan: &[u8], start: u32, pack: u64, choice: u32, out: bool) 
         refused: false,
         refusal: Refusal::alone(0),
         going: true,
-        start,
+        start: asked.start,
         stop: stop.day,
-        day: start,
-        rest: pack,
-        today: on_day(plan, choice, start),
+        day: asked.start,
+        rest: asked.pack,
+        today: on_day(plan, choice, asked.start),
     }
 }

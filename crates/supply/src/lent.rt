@@ -1,7 +1,12 @@
-// Supply with the pauses as a lent list of records: the way in, and the walk, which asks on each day whether the list pauses it. The borrow
-// checker covers neither: each is short, leaves its work to functions on values, and has its proof by hand.
+// Supply and the set of dates with the pauses as a lent list of records: the ways in, and the walk, which asks on each day whether the list
+// pauses it. The borrow checker covers none: each is short, leaves its work to functions on values, and has its proof by hand.
+use crate::DateSet;
 use crate::Supply;
+use crate::ask::Asked;
+use crate::ask::ask;
+use crate::ask::ask_dates;
 use crate::begin::begin;
+use crate::set::set_of;
 use crate::walk::Walk;
 use crate::walk::day_of;
 use crate::walk::ended;
@@ -11,7 +16,9 @@ use pause::Pause;
 use pause::are_out;
 use pause::paused;
 ghost use mathlib.Core.Path.{_≡_};
+ghost use Rattle.supply.specs.Dates.{datesOf};
 ghost use Rattle.supply.specs.Supply.{supplyOf};
+ghost use Rattle.supply.specs.code.Asking.{Judged, answeredBy};
 ghost use Rattle.supply.specs.code.Walking.{Ready, Ended};
 
 // The walk, day by day.
@@ -26,10 +33,36 @@ fn walked(plan: &[u8], choice: u32, pauses: &[Pause], begun: Walk) -> Walk
     w
 }
 
+// How far the pack lasts by a choice, once the plan is judged.
+pub(crate) fn supply_by(plan: &[u8], asked: Asked, choice: u32, pauses: &[Pause]) -> Supply
+    requires { ⌜ Judged (now plan) asked ⌝ }
+    ensures { λ r. ⌜ r ≡ answeredBy (now (plan .entry)) asked choice (now (pauses .entry)) ⌝ }
+{
+    ended(walked(plan, choice, pauses, begin(plan, asked, choice)))
+}
+
 // How far a pack lasts, with the pauses as a lent list of records.
 pub fn supply_of(plan: &[u8], start: u32, pack: u64, choice: u32, pauses: &[Pause]) -> Supply
     ensures { λ r. ⌜ r ≡ supplyOf (now (plan .entry)) start pack choice (now (pauses .entry)) ⌝ }
 {
-    let begun = begin(plan, start, pack, choice, are_out(pauses));
-    ended(walked(plan, choice, pauses, begun))
+    supply_by(
+        plan,
+        ask(plan, start, pack, are_out(pauses)),
+        choice,
+        pauses,
+    )
+}
+
+// The set of dates, with the pauses as a lent list of records: the plan is judged once, and walked by each choice that has a date.
+pub fn dates_of(plan: &[u8], start: u32, pack: u64, pauses: &[Pause]) -> DateSet
+    ensures { λ r. ⌜ r ≡ datesOf (now (plan .entry)) start pack (now (pauses .entry)) ⌝ }
+{
+    let asked = ask_dates(plan, start, pack, are_out(pauses));
+    set_of(
+        asked,
+        supply_by(plan, asked, 1, pauses),
+        supply_by(plan, asked, 2, pauses),
+        supply_by(plan, asked, 3, pauses),
+        supply_by(plan, asked, 4, pauses),
+    )
 }

@@ -7,8 +7,7 @@ use lib.Dec.{eqb, leb}
 use Rattle.day.specs.Days.{lastNumber, openMark}
 use Rattle.need.specs.Need.{dueOn, needOn}
 use Rattle.pause.specs.declared.Pause.{Pause}
-use Rattle.verdict.specs.Verdict.{verdictOf}
-use Rattle.supply.specs.Supply.{lastingOf, judgedOf, passedOn}
+use Rattle.supply.specs.Supply.{lastingOf}
 use Rattle.supply.specs.code.Standing.{Orderly, Known}
 use Rattle.supply.specs.declared.Lasting.{Lasting}
 use Rattle.supply.specs.declared.Supply.{Supply}
@@ -30,12 +29,6 @@ pub record Ready (choice : ℕ) (p : List ℕ) (w : Walk) : Type 0 where
   pub goes : w .refused ≡ false → w .going ≡ true
   pub first : w .refused ≡ false → w .day ≡ w .start
   pub at : w .refused ≡ false → Going choice p w
-
--- what is asked for, once the plan is judged; `out` says that 21 is due
-pub record Begun (p : List ℕ) (start pack choice : ℕ) (out : Bool) (w : Walk) : Type 0 where
-  pub ready : Ready choice p w
-  pub refused-is : w .refused ≡ true → (ps : List Pause) → passedOn (verdictOf p) (judgedOf p start pack choice out ps) ≡ Refused (w .refusal)
-  pub lasts-is : w .refused ≡ false → (ps : List Pause) → passedOn (verdictOf p) (judgedOf p start pack choice out ps) ≡ Lasts (lastingOf (needOn choice p ps) (w .start) (w .stop) (w .rest))
 
 -- a day of the walk, whose need is taken from the rest if the rest has it
 pub record Stepped (choice : ℕ) (p : List ℕ) (paused : Bool) (w r : Walk) : Type 0 where

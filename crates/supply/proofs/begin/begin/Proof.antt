@@ -1,40 +1,23 @@
-use mathlib.Core.Path.{refl, sym, ap, _∙_}
+use mathlib.Core.Bool.{true}
+use mathlib.Core.Path.{_≡_, refl, sym, _∙_}
 use borrow.Author.Needs.{needs}
-use Rattle.verdict.specs.Verdict.{refusalOf}
+use borrow.Author.Tests.{not-true, not-false}
+use Rattle.need.proofs.Found.{classed-any, classed-day}
+use Rattle.supply.specs.code.Asking.{isAsked}
 use Rattle.supply.proofs.Accepted.{orderly}
-use Rattle.supply.proofs.Refusing.{unrefused}
-use Rattle.supply.proofs.Beginning.{begun-broken, begun-refused, begun-going, stop-any, stop-last}
+use Rattle.supply.proofs.Beginning.{begun-refused, begun-unasked, begun-own, begun-going}
 use Rattle.verdict.proofs.Exactly.{accepted-only}
 use Rattle.supply.proofs.begin.begin.Statement.{statement}
 use Rattle.supply.proofs.begin.begin.Tie as tie
-
-verdict-with-classes-requires : tie.Need-verdict-with-classes-requires
-verdict-with-classes-requires c κs = search needs
-
-enum-told : tie.Need-enum-told
-enum-told c = search needs
-
-enum-told-2 : tie.Need-enum-told-2
-enum-told-2 c = search needs
-
-refusal-of-requires : tie.Need-refusal-of-requires
-refusal-of-requires c κs = search needs
 
 refused-requires : tie.Need-refused-requires
 refused-requires c κs = search needs
 
 returns : tie.Need-returns
-returns c =
-    let e = c .before .before .enum-told2 .given .1 in
-    let v = sym (c .before .before .before .before .verdict-with-classes .ensures .0) ∙ e in
-    let x = c .refused .ensures in
-    begun-broken v (x .0, x .1, x .2 ∙ c .before .refusal-of .ensures ∙ ap refusalOf e)
+returns c = begun-refused (c .before .if1 .taken) (c .refused .ensures)
 
-stop-of-requires : tie.Need-stop-of-requires
-stop-of-requires c κs = search needs
-
-refused-by-requires : tie.Need-refused-by-requires
-refused-by-requires c κs = search needs
+is-asked-requires : tie.Need-is-asked-requires
+is-asked-requires c κs = search needs
 
 alone-requires : tie.Need-alone-requires
 alone-requires c κs = search needs
@@ -44,49 +27,67 @@ refused-requires-2 c κs = search needs
 
 returns-2 : tie.Need-returns-2
 returns-2 c =
-    let a = c .before .before .before .before .before .before .before .before .before .before .args in
-    let j = c .before .before .before .before .before .before .before .before .verdict-with-classes .ensures in
-    let v = sym (j .0) ∙ c .before .before .before .before .before .before .enum-told .given .1 in
-    let s = c .before .before .before .before .stop-of .ensures in
     let x = c .refused2 .ensures in
-    begun-refused v (c .before .before .before .refused-by .ensures ∙ rw (s .0, s .1, stop-any (a .choice) _ _ v (j .1), stop-last (a .choice) _ _ v (j .1))) (c .before .before .if1 .taken)
-    (x .0, x .1, x .2 ∙ c .before .alone .ensures)
+    begun-unasked (c .before .before .before .before .if1 .left) (sym (c .before .before .before .is-asked .ensures) ∙ not-true _ (c .before .before .if2 .taken)) (x .0, x .1, x .2 ∙ c .before .alone .ensures)
+
+stop-of-requires : tie.Need-stop-of-requires
+stop-of-requires c κs = search needs
+
+own-by-requires : tie.Need-own-by-requires
+own-by-requires c κs = search needs
 
 alone-requires-2 : tie.Need-alone-requires-2
 alone-requires-2 c κs = search needs
 
-on-day-requires : tie.Need-on-day-requires
-on-day-requires c κs =
-    let a = c .before .before .before .before .before .before .before .before .before .args in
-    let v = sym (c .before .before .before .before .before .before .before .verdict-with-classes .ensures .0) ∙ c .before .before .before .before .before .enum-told .given .1 in
-    let u = unrefused (a .start) (a .pack) (a .choice) (a .out) _ _ (sym (c .before .before .refused-by .ensures) ∙ c .before .if1 .left) in
-    (orderly _ (accepted-only _ v) _, u .start-in)
+refused-requires-3 : tie.Need-refused-requires-3
+refused-requires-3 c κs = search needs
 
 returns-3 : tie.Need-returns-3
 returns-3 c =
     let a = c .before .before .before .before .before .before .before .before .before .before .args in
-    let j = c .before .before .before .before .before .before .before .before .verdict-with-classes .ensures in
-    let v = sym (j .0) ∙ c .before .before .before .before .before .before .enum-told .given .1 in
+    let f = c .before .before .before .before .before .before .before .before .if1 .left in
+    let k = c .before .before .before .before .before .before .before .before .before .before .pre .classed f in
     let s = c .before .before .before .before .stop-of .ensures in
-    let l = stop-last (a .choice) _ _ v (j .1) in
-    begun-going v (c .before .before .before .refused-by .ensures ∙ rw (s .0, s .1, stop-any (a .choice) _ _ v (j .1), l)) (c .before .before .if1 .left)
+    let t : isAsked (a .asked) (a .choice) ≡ true = sym (c .before .before .before .before .before .before .before .is-asked .ensures) ∙ not-false _ (c .before .before .before .before .before .before .if2 .left) in
+    let x = c .refused3 .ensures in
+    begun-own f t (c .before .before .before .own-by .ensures ∙ rw (s .0, s .1, classed-any (a .choice) k, classed-day (a .choice) k)) (c .before .before .if3 .taken) (x .0, x .1, x .2 ∙ c .before .alone2 .ensures)
+
+alone-requires-3 : tie.Need-alone-requires-3
+alone-requires-3 c κs = search needs
+
+on-day-requires : tie.Need-on-day-requires
+on-day-requires c κs =
+    let f = c .before .before .before .before .before .before .before .if1 .left in
+    let j = c .before .before .before .before .before .before .before .before .before .pre in
+    (orderly _ (accepted-only _ (j .accepted f .1)) _, j .start-in f)
+
+returns-4 : tie.Need-returns-4
+returns-4 c =
+    let a = c .before .before .before .before .before .before .before .before .before .before .args in
+    let f = c .before .before .before .before .before .before .before .before .if1 .left in
+    let j = c .before .before .before .before .before .before .before .before .before .before .pre in
+    let k = j .classed f in
+    let s = c .before .before .before .before .stop-of .ensures in
+    let t : isAsked (a .asked) (a .choice) ≡ true = sym (c .before .before .before .before .before .before .before .is-asked .ensures) ∙ not-false _ (c .before .before .before .before .before .before .if2 .left) in
+    let l = classed-day (a .choice) k in
+    begun-going f t (c .before .before .before .own-by .ensures ∙ rw (s .0, s .1, classed-any (a .choice) k, l)) (c .before .before .if3 .left) j
     (record { unrefused-is = refl; on = refl; start-is = refl; stop-is = s .1 ∙ l; day-is = refl; rest-is = refl; known = c .on-day .ensures })
 
 pub begin-spec : {M : Type 1} → statement M
 begin-spec =
     tie.close
     (tie.spec
-    verdict-with-classes-requires
-    enum-told
-    enum-told-2
-    refusal-of-requires
     refused-requires
     returns
-    stop-of-requires
-    refused-by-requires
+    is-asked-requires
     alone-requires
     refused-requires-2
     returns-2
+    stop-of-requires
+    own-by-requires
     alone-requires-2
+    refused-requires-3
+    returns-3
+    alone-requires-3
     on-day-requires
-    returns-3)
+    returns-4)
