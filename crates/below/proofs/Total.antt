@@ -79,6 +79,12 @@ module _ (f g : ℕ → ℕ) where
   sum-same zero h = refl
   sum-same (suc n) h = rw (sum-same n (λ k l. h k (omega arith)), h n (omega arith))
 
+  -- terms that are no larger sum to no more
+  pub sum-below : (n : ℕ) → ((k : ℕ) → k < n → f k ≤ g k) → sumBelow n f ≤ sumBelow n g
+  unfolding sumBelow
+  sum-below zero h = omega arith
+  sum-below (suc n) h = omega (arith, sum-below n (λ k l. h k (omega arith)), h n (omega arith))
+
   -- the sum of two terms each is the two sums
   pub sum-both : (n : ℕ) → sumBelow n (λ k. f k + g k) ≡ sumBelow n f + sumBelow n g
   unfolding sumBelow

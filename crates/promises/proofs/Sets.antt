@@ -1,5 +1,5 @@
 -- The set of dates is what W1 says, over supply's own answers. Assumes nothing.
-use Prim.Native.Nat.{ℕ, _+_, _-_}
+use Prim.Native.Nat.{ℕ, _+_, _-_, _≤_}
 use mathlib.Core.Bool.{Bool, true, false, cond, not, _||_}
 use mathlib.Core.List.{List}
 use mathlib.Core.Logic.{_⊎_, inl, inr, ⊎-elim}
@@ -16,9 +16,10 @@ use Rattle.plan.specs.Periods.{isPeriod, classOf}
 use Rattle.refusal.specs.Refusals.{alone}
 use Rattle.refusal.specs.declared.Refusal.{Refusal}
 use Rattle.supply.proofs.Agreeing.{one-end, need-only}
+use Rattle.supply.proofs.Later.{low-lasts, low-later}
 use Rattle.supply.proofs.Refusing.{asked-none, stop-day-in}
 use Rattle.supply.specs.Dates.{isRanging, isNeeded, dateBy, setOf, setBy, noDates, datesIn, refusalInSet}
-use Rattle.supply.specs.Supply.{lastingOf, askedBy, ownBy, judgedOf, passedOn, lastingIn}
+use Rattle.supply.specs.Supply.{lastingOf, askedBy, ownBy, judgedOf, passedOn, refusalIn, lastingIn}
 use Rattle.supply.specs.declared.Dates.{Dates}
 use Rattle.supply.specs.declared.DateSet.{DateSet}
 use Rattle.supply.specs.declared.DateSet.the-variants as variants
@@ -29,7 +30,7 @@ use Rattle.verdict.proofs.Exactly.{accepted-only}
 use Rattle.verdict.specs.Verdict.{verdictOf}
 use Rattle.verdict.specs.declared.Answer.{Answer}
 use Rattle.verdict.specs.declared.Answer.the-variants.{Accepted, Broken}
-use Rattle.promises.specs.Sets.{IsDate, DatesAre, NeedOnly, Sets}
+use Rattle.promises.specs.Sets.{HasNoDay, IsDate, DatesAre, NeedOnly, Sets}
 use Rattle.promises.proofs.LastDays.{last-covered}
 
 -- no fixed or mixed period: choice 1 has no stop day
@@ -45,6 +46,11 @@ if-wanted x e = rw e
 
 if-unwanted : {t : Bool} (x : ℕ) → t ≡ false → cond t x openMark ≡ openMark
 if-unwanted x e = rw e
+
+-- a supply that has no day covers none
+covers-none : (s : Supply) → HasNoDay s → lastingIn s .days ≡ 0
+covers-none (Lasts x) h = ⊎-elim (λ z. z .1) (λ (z : 0 ≡ 24). absurd (omega arith)) h
+covers-none (Refused r) h = refl
 
 -- a refused set has no dates
 no-dates : (s : DateSet) → (refusalInSet s .number ≡ 0 → ⊥) → datesIn s ≡ noDates
@@ -131,6 +137,23 @@ module _ (p : List ℕ) (start pack : ℕ) (out : Bool) (ps : List Pause) where
         told : {s : Supply} → supply choice ≡ s → IsDate s (lastingIn s .last) → IsDate (supply choice) (dateBy supply choice)
         told e d = subst (λ (s : Supply). IsDate s (lastingIn s .last)) (sym e) d
 
+    -- one that covers no day has no date
+    no-date : lastingIn (supply choice) .days ≡ 0 → dateBy supply choice ≡ openMark
+    no-date z =
+        is-date .absent-where
+        (⊎-elim
+        (λ (e : supply choice ≡ Refused (alone 24)). inr (ap (λ (s : Supply). refusalIn s .number) e))
+        (λ (e : supply choice ≡ Lasts lasting). inl (ap (λ (s : Supply). refusalIn s .number) e, z))
+        by-stop)
+
+  -- low amounts last longer
+  module _ {n : ℕ} (v : verdictOf p ≡ Accepted n) where
+    days-later : lastingIn (supply 2) .days ≤ lastingIn (supply 1) .days
+    days-later = rw v (low-lasts p (accepted-only p v) start pack out ps)
+
+    date-later : (dateBy supply 2 ≡ openMark → ⊥) → dateBy supply 2 ≤ dateBy supply 1
+    date-later = rw (dateBy, v) (low-later p (accepted-only p v) start pack out ps)
+
   abbrev one-answer : isRanging start p ≡ false → supply 1 ≡ supply 2
   one-answer e = ap (λ (s : Supply). passedOn (verdictOf p) s) (one-end p start pack out ps e)
 
@@ -153,13 +176,22 @@ module _ (p : List ℕ) (start pack : ℕ) (out : Bool) (ps : List Pause) where
             let w = sym (if-wanted (dateBy supply 1) (ap not t)) ∙ z in
             (moved refl w (date 1 refl), moved (one-answer t) w (date 1 refl));
         not-two = λ t. (sym (ap (λ (y : Dates). y .minimum) i) ∙ if-unwanted _ t, sym (ap (λ (y : Dates). y .maximum) i) ∙ if-unwanted _ t);
-        two-ends = λ t.
-            (moved refl (sym (if-wanted (dateBy supply 1) t) ∙ ap (λ (y : Dates). y .minimum) i) (date 1 refl),
-            moved refl (sym (if-wanted (dateBy supply 2) t) ∙ ap (λ (y : Dates). y .maximum) i) (date 2 refl));
+        two-ends = λ t. (
+          moved refl (sym (if-wanted (dateBy supply 1) t) ∙ ap (λ (y : Dates). y .minimum) i) (date 1 refl),
+          moved refl (sym (if-wanted (dateBy supply 2) t) ∙ ap (λ (y : Dates). y .maximum) i) (date 2 refl),
+        );
         not-one = λ t. sym (ap (λ (y : Dates). y .end) i) ∙ if-unwanted _ (ap not t);
-        needed = λ t.
-            (moved refl (sym (if-wanted (dateBy supply 3) t) ∙ ap (λ (y : Dates). y .third) i) (date 3 refl),
-            moved refl (sym (if-wanted (dateBy supply 4) t) ∙ ap (λ (y : Dates). y .fourth) i) (date 4 refl));
+        later = λ t h.
+            let low = sym (if-wanted (dateBy supply 1) t) ∙ ap (λ (y : Dates). y .minimum) i in
+            let upper = sym (if-wanted (dateBy supply 2) t) ∙ ap (λ (y : Dates). y .maximum) i in
+            let some : dateBy supply 2 ≡ openMark → ⊥ = λ z. h (sym upper ∙ z) in (
+              λ z. some (no-date v (g .none) 2 refl (omega (arith, days-later v, covers-none (supply 1) (date 1 refl .absent-only (low ∙ z))))),
+              omega (arith, date-later v some, low, upper),
+            );
+        needed = λ t. (
+          moved refl (sym (if-wanted (dateBy supply 3) t) ∙ ap (λ (y : Dates). y .third) i) (date 3 refl),
+          moved refl (sym (if-wanted (dateBy supply 4) t) ∙ ap (λ (y : Dates). y .fourth) i) (date 4 refl),
+        );
         not-needed = λ t. (sym (ap (λ (y : Dates). y .third) i) ∙ if-unwanted _ t, sym (ap (λ (y : Dates). y .fourth) i) ∙ if-unwanted _ t);
       }
 

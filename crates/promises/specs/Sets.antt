@@ -1,5 +1,5 @@
 -- What document 02, W1, says of the set of dates, over supply's own answers: `supply` is the answer by each choice, and `set` the set.
-use Prim.Native.Nat.{ℕ, _<_}
+use Prim.Native.Nat.{ℕ, _≤_, _<_}
 use mathlib.Core.Bool.{true, false}
 use mathlib.Core.List.{List}
 use mathlib.Core.Logic.{_⊎_}
@@ -33,6 +33,8 @@ pub record DatesAre (p : List ℕ) (start : ℕ) (supply : ℕ → Supply) (x : 
   -- "else a minimum date by low amounts and a maximum date by upper amounts"
   pub two-ends : isRanging start p ≡ true → IsDate (supply 1) (x .minimum) × IsDate (supply 2) (x .maximum)
   pub not-one : isRanging start p ≡ true → x .end ≡ openMark
+  -- where there is a maximum date there is a minimum date, and it is the later one or the same: low amounts last longer
+  pub later : isRanging start p ≡ true → (x .maximum ≡ openMark → ⊥) → (x .minimum ≡ openMark → ⊥) × (x .maximum ≤ x .minimum)
   -- "and dates 3 and 4 where a need or mixed period ends on or after the start"
   pub needed : isNeeded start p ≡ true → IsDate (supply 3) (x .third) × IsDate (supply 4) (x .fourth)
   pub not-needed : isNeeded start p ≡ false → (x .third ≡ openMark) × (x .fourth ≡ openMark)

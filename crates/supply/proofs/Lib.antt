@@ -14,3 +14,4 @@ pub mod Walking
 pub mod Unpacked
 pub mod Agreeing
 pub mod Lending
+pub mod Later
