@@ -35,7 +35,7 @@ endsFrom isOf start p b = isPeriod p b && isOf (classOf p b) && leb start (lastO
 unfoldable pub hasInterval : List ℕ → ℕ → Bool
 hasInterval p b = anyBelow (dosesOf p b) (λ j. isInterval (doseIn p b j))
 
--- not "if no fixed or mixed period ending on or after the start has an unmarked interval dose"
+-- "if no fixed or mixed period ending on or after the start has an unmarked interval dose", the other way round: some such period has one
 unfoldable pub isRanging : ℕ → List ℕ → Bool
 isRanging start p = anyBelow (blocksOf p) (λ b. endsFrom fixedOrMixed start p b && hasInterval p b)
 
