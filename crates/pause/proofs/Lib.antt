@@ -3,3 +3,4 @@ pub mod Lists
 pub mod Filled
 pub mod Walk
 pub mod Loop
+pub mod InSight

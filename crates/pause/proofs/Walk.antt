@@ -35,9 +35,13 @@ use denote.Triple.Call.{calls-at}
 use denote.Triple.Clauses.{ensured, lasts}
 use denote.Triple.Spec.{tripleOf}
 use Rattle.pause.specs.declared.Pause.{Pause}
+use Rattle.pause.specs.declared.Sight.{Sight}
 use Rattle.pause.specs.Pauses.{noDay, areOut}
+use Rattle.pause.proofs.InSight.{noPause}
 use Rattle.pause.proofs.Pause as T
 use Rattle.pause.proofs.Pause.Laws as T′
+use Rattle.pause.proofs.Sight as S
+use Rattle.pause.proofs.Sight.Laws as S′
 use Rattle.pause.proofs.lent.pause_at as f
 use Rattle.pause.proofs.lent.pause_at.Symbol.{name as #pause·lent·pause-at}
 use Rattle.pause.proofs.lent.are_out as out
@@ -93,6 +97,26 @@ module _ {M : Type 1} (𝓤 : URA M) (H : Heap 𝓤) (A : Atoms 𝓤) (W : Given
 
   pub one-makes : Makes 𝓤 H A One (Is One)
   one-makes = LL.makes T.the-type T′.the-plain 𝓤 H A
+
+-- what a list says from a day on: its type, its machine value, and that it is plain data, which a callee that asks for it has anew
+abbrev pub Seen : RattleType
+Seen = S.the-row
+
+abbrev pub seen : Ty
+seen = S′.mir
+
+abbrev pub seen-lowered : Sight → Val
+seen-lowered = S′.lowered
+
+pub no-pause-is : Is Seen noPause (seen-lowered noPause ∷ [])
+no-pause-is = LL.owes S.the-type S′.the-laws noPause (refl, ((refl, lit< tt), tt))
+
+module _ {M : Type 1} (𝓤 : URA M) (H : Heap 𝓤) (A : Atoms 𝓤) where
+  pub seen-makes : Makes 𝓤 H A Seen (Is Seen)
+  seen-makes = LL.makes S.the-type S′.the-plain 𝓤 H A
+
+  pub seen-typed : Given 𝓤 H A → (h : Sight) (w : Val) → Is Seen h (w ∷ []) → Holds (hasTy seen w) × WT w
+  seen-typed W h w is = LL.lawful S.the-type S′.the-laws 𝓤 H A W .typed h (w ∷ []) is .0
 
 -- how far a pause in memory is from the next
 abbrev size : ℕ

@@ -1,2 +1,3 @@
 -- Document 01, "Supply": the pause records.
 pub mod Pauses
+pub mod Sight

@@ -1,12 +1,16 @@
 // Pauses as a lent slice of records. The borrow checker covers no function here: each is short, leaves its work to
 // functions on plain numbers and values, and has its proof by hand.
 use crate::Pause;
+use crate::Sight;
 use crate::test::NO_DAY;
+use crate::test::NO_PAUSE;
 use crate::test::or_held;
 use crate::test::or_out;
+use crate::test::with_pause_in_sight;
 ghost use mathlib.Core.Path.{_≡_};
 ghost use lib.ListN.{getD};
 ghost use Rattle.pause.specs.Pauses.{noDay, isPaused, areOut};
+ghost use Rattle.pause.specs.Sight.{sightOf};
 
 // The pause at place `i` of the list; past the end, one that holds no day.
 pub fn pause_at(ps: &[Pause], i: usize) -> Pause
@@ -32,7 +36,7 @@ pub fn paused(ps: &[Pause], day: u32) -> bool
 }
 
 // 21: are there more than 32 pauses, or is one of them out? Its locals stand as those of `paused`, so that one walk proves both
-// loops.
+// loops, and that of `sight_from`.
 pub fn are_out(ps: &[Pause]) -> bool
     ensures { λ r. ⌜ r ≡ areOut (now (ps .entry)) ⌝ }
 {
@@ -44,4 +48,17 @@ pub fn are_out(ps: &[Pause]) -> bool
         i = i + 1;
     }
     out
+}
+
+// Is the day paused, and up to which day does that stay so?
+pub fn sight_from(ps: &[Pause], day: u32) -> Sight
+    ensures { λ r. ⌜ r ≡ sightOf (now (ps .entry)) day ⌝ }
+{
+    let mut s = NO_PAUSE;
+    let mut i = 0;
+    while i < ps.len() {
+        s = with_pause_in_sight(s, pause_at(ps, i), day);
+        i = i + 1;
+    }
+    s
 }

@@ -7,6 +7,7 @@ mod test;
 pub use lent::are_out;
 pub use lent::pause_at;
 pub use lent::paused;
+pub use lent::sight_from;
 pub use packed::unpack;
 pub use test::is_in;
 pub use test::is_out;
@@ -20,4 +21,10 @@ pub struct Pause {
 pub struct Pauses {
     pub count: usize,
     pub at: [Pause; 32],
+}
+
+// What a list of pauses says from a day on: whether the day is paused, and up to which day that stays so.
+pub struct Sight {
+    pub paused: bool,
+    pub until: u32,
 }
