@@ -73,10 +73,10 @@ static void periods_of_20(uint32_t number, uint32_t periods) {
     plan_len = write_draft(&draft, plan);
 }
 
-/* One period of up to 31 blocks, iterated over a week. */
-static void one_period(uint32_t number, uint32_t doses) {
+/* One open period of up to 31 blocks, in rounds of some days. */
+static void one_period(uint32_t number, uint32_t doses, uint32_t days) {
     begin_plan(number);
-    fill(add(8000, DAY_OPEN, 7), doses, 7, 0);
+    fill(add(8000, DAY_OPEN, days), doses, days, 0);
     plan_len = write_draft(&draft, plan);
 }
 
@@ -112,6 +112,8 @@ static void day_sums(const struct calls *c) { must_be_done(c->day_sums(plan, pla
 static void supply_month(const struct calls *c) { must_be_done(c->supply(plan, plan_len, start, 40 * 400, 1, NULL, 0, out, 32), "supply"); }
 static void supply_all(const struct calls *c) { must_be_done(c->supply(plan, plan_len, 0, 1000000000000u, 2, NULL, 0, out, 32), "supply"); }
 static void supply_paused(const struct calls *c) { must_be_done(c->supply(plan, plan_len, 0, 1000000000000u, 2, pauses, sizeof pauses, out, 32), "supply"); }
+static void supply_rounds(const struct calls *c) { must_be_done(c->supply(plan, plan_len, start, 1000000000000u, 2, NULL, 0, out, 32), "supply"); }
+static void supply_rounds_paused(const struct calls *c) { must_be_done(c->supply(plan, plan_len, start, 1000000000000u, 2, pauses, sizeof pauses, out, 32), "supply"); }
 static void dates_month(const struct calls *c) { must_be_done(c->dates(plan, plan_len, start, 40 * 400, NULL, 0, out, 40), "dates"); }
 static void dates_all(const struct calls *c) { must_be_done(c->dates(plan, plan_len, 0, 1000000000000u, NULL, 0, out, 40), "dates"); }
 
@@ -186,6 +188,16 @@ static void bench_plan(const char *name) {
     }
 }
 
+/* A pack for all days from an open period's first to 2199. */
+static void bench_rounds(const char *name, uint32_t doses, uint32_t days) {
+    char line[96];
+    one_period(1, doses, days);
+    snprintf(line, sizeof line, "supply to 2199: %s", name);
+    bench(line, supply_rounds);
+    snprintf(line, sizeof line, "the same with 32 pauses: %s", name);
+    bench(line, supply_rounds_paused);
+}
+
 /* A register with every slot taken; number 0 is signed by two, and its bytes are in `plan`. */
 static void fill_register(uint32_t slots, void (*make)(uint32_t number)) {
     reg_len = slots * (size_t)CHIVETASSEL_SLOT;
@@ -228,8 +240,11 @@ int main(void) {
     bench_plan("a usual plan");
     periods_of_20(1, 31);
     bench_plan("31 periods of 20 doses");
-    one_period(1, 620);
+    one_period(1, 620, 7);
     bench_plan("one period of 620 doses");
+    bench_rounds("1 dose daily", 1, 1);
+    bench_rounds("28 in 7 days", 28, 7);
+    bench_rounds("620 in 620 days", 620, 620);
     thirty_days(1);
     split_now();
     bench("split: the longest need part", split);

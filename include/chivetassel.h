@@ -24,9 +24,9 @@
 #include <stdint.h>
 
 /* The version of this header: the first number moves where an old caller has to be changed, the second where something is
-   new, the third where something is mended. chivetassel_version says it of the library that was linked. */
-#define CHIVETASSEL_VERSION 10100u /* 10,000 * first + 100 * second + third */
-#define CHIVETASSEL_VERSION_TEXT "1.1.0"
+   new, the third where something is mended or takes less time. chivetassel_version says it of the library that was linked. */
+#define CHIVETASSEL_VERSION 10101u /* 10,000 * first + 100 * second + third */
+#define CHIVETASSEL_VERSION_TEXT "1.1.1"
 
 /* On what a call writes, and on what it reads beside that: see "Buffers must not overlap". */
 #if defined(__GNUC__) || defined(_MSC_VER)

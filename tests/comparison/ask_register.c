@@ -215,7 +215,7 @@ void ask_of_register(struct random *r) {
         ask_no_slot(r);
         return;
     }
-    if (once_in(r, 20)) {
+    if (once_in(r, 10)) {
         ask_long(r);
         return;
     }

@@ -2,15 +2,17 @@
 
        compare COUNT SEED      inputs 0 to COUNT - 1 of this seed
        compare =INPUT SEED     that input by itself
+       compare walks           every small walk of supply, with no seed
 
    Ends with 1 at the first difference, which is told and kept in files of the current folder, and where an answer that
-   documents 01 and 02 name never came up: a comparison that does not ask is worth nothing. */
+   documents 01 and 02 name, or one of the events below, never came up: a comparison that does not ask is worth nothing. */
 #include "ask.h"
 #include "chivetassel.h"
 #include "draft.h"
 
 #include <stdio.h>
 #include <stdlib.h>
+#include <string.h>
 
 static void compare_input(uint64_t seed, uint64_t number) {
     static uint8_t plan[DRAFT_BYTES];
@@ -18,6 +20,10 @@ static void compare_input(uint64_t seed, uint64_t number) {
     name_input(seed, number);
     if (number % 16 == 0) {
         ask_of_register(&r);
+        return;
+    }
+    if (number % 16 == 8) {
+        ask_of_rounds(&r);
         return;
     }
     for (uint32_t i = 0; i < 6; i++)
@@ -68,6 +74,62 @@ static const char *const event_words[EVENTS] = {
     [DATES_NEED_ONLY] = "dates of a need-only plan",
     [DAY_SHOWN] = "a day shown",
     [NO_DAY_SHOWN] = "no day shown",
+    [ROUNDS_OF_1] = "two rounds or more of 1 day",
+    [ROUNDS_OF_2] = "two rounds or more of 2 days",
+    [ROUNDS_OF_7] = "two rounds or more of 7 days",
+    [ROUNDS_OF_28] = "two rounds or more of 28 days",
+    [ROUNDS_OF_620] = "two rounds or more of 620 days",
+    [ROUND_OF_65535] = "a round of 65,535 days",
+    [ROUNDS_OF_HUNDREDS] = "two rounds or more of hundreds of days",
+    [ROUNDS_OF_THOUSANDS] = "two rounds or more of thousands of days",
+    [ROUNDS_TO_2199] = "rounds over more than 65,535 days",
+    [PAUSED_TO_2199] = "rounds over more than 65,535 days, and pauses",
+    [ROUNDS_OF_NOTHING] = "rounds that need nothing",
+    [ROUNDS_NOT_OF_CHOICE] = "rounds without a dose of the choice",
+    [ANY_DAY_BY_3] = "rounds of days with day number 0, by choice 3",
+    [ANY_DAY_BY_4] = "rounds of days with day number 0, by choice 4",
+    [START_AHEAD] = "rounds from a start ahead of the period",
+    [START_FIRST_DAY] = "rounds from the period's first day",
+    [START_LAST_DAY] = "a start on an iterated period's last day",
+    [START_ROUND] = "rounds from the first day of a later round",
+    [START_END_OF_ROUND] = "rounds from the last day of a round",
+    [START_INSIDE_ROUND] = "rounds from a day inside a round",
+    [PACK_ONE_LESS] = "a pack for one round, less one",
+    [PACK_EXACT] = "a pack for exactly one round",
+    [PACK_ONE_MORE] = "a pack for one round, and one",
+    [PACK_MANY_ONE_LESS] = "a pack for ten rounds or more, less one",
+    [PACK_MANY_EXACT] = "a pack for exactly ten rounds or more",
+    [PACK_MANY_ONE_MORE] = "a pack for ten rounds or more, and one",
+    [STOP_WITH_ROUND] = "the stop day ends a round",
+    [STOP_AFTER_ROUND] = "the stop day is the first of a round",
+    [STOP_SHORT_OF_ROUND] = "the stop day is the last but one of a round",
+    [NEXT_WITH_ROUND] = "the next period begins where a round ends",
+    [NEXT_INSIDE_ROUND] = "the next period begins inside a round",
+    [OVER_BEGINS_BY_1] = "the other list's period begins in a round, by 1",
+    [OVER_BEGINS_BY_2] = "the other list's period begins in a round, by 2",
+    [OVER_BEGINS_BY_3] = "the other list's period begins in a round, by 3",
+    [OVER_BEGINS_BY_4] = "the other list's period begins in a round, by 4",
+    [OVER_ENDS_BY_1] = "the other list's period ends in a round, by 1",
+    [OVER_ENDS_BY_2] = "the other list's period ends in a round, by 2",
+    [OVER_ENDS_BY_3] = "the other list's period ends in a round, by 3",
+    [OVER_ENDS_BY_4] = "the other list's period ends in a round, by 4",
+    [PAUSE_ON_LAST_OF_ROUND] = "a pause from the last day of a round on",
+    [PAUSE_ON_FIRST_OF_ROUND] = "a pause from the first day of a round on",
+    [PAUSE_OF_A_DAY] = "a pause of one day inside a round",
+    [PAUSE_UP_TO_ROUND] = "a pause up to the day ahead of a round",
+    [PAUSE_OPEN] = "a pause open to the end",
+    [PAUSE_PAST_STOP] = "a pause past the stop day",
+    [PAUSES_TOUCH] = "two pauses that touch",
+    [PAUSES_OVERLAP] = "two pauses that overlap",
+    [PAUSES_DAY_BETWEEN] = "one day between two pauses",
+    [PAUSES_ROUND_BETWEEN] = "a round between two pauses",
+    [PAUSES_SHORT_ROUND_BETWEEN] = "a round less a day between two pauses",
+    [PAUSES_LONG_ROUND_BETWEEN] = "a round and a day between two pauses",
+    [ROUNDS_TO_END_DATE] = "two rounds or more to an end date",
+    [ROUNDS_TO_MINIMUM] = "two rounds or more to a minimum date",
+    [ROUNDS_TO_MAXIMUM] = "two rounds or more to a maximum date",
+    [ROUNDS_TO_DATE_3] = "two rounds or more to a date 3",
+    [ROUNDS_TO_DATE_4] = "two rounds or more to a date 4",
 };
 
 static unsigned missing(void) {
@@ -100,17 +162,22 @@ static void print_answers(void) {
         printf("\n");
     }
     for (unsigned event = 0; event < EVENTS; event++)
-        printf("%-36s %8llu times\n", event_words[event], (unsigned long long)events[event]);
+        printf("%-48s %8llu times\n", event_words[event], (unsigned long long)events[event]);
 }
 
 int main(int words, char **word) {
-    if (words != 3) {
-        fprintf(stderr, "usage: compare COUNT SEED, or compare =INPUT SEED\n");
+    bool of_walks = words == 2 && strcmp(word[1], "walks") == 0;
+    if (words != 3 && !of_walks) {
+        fprintf(stderr, "usage: compare COUNT SEED, compare =INPUT SEED, or compare walks\n");
         return 2;
     }
     if (chivetassel_version() != CHIVETASSEL_VERSION) {
         printf("DIFFERENCE in version: the library was built from another header\n");
         return 1;
+    }
+    if (of_walks) {
+        printf("no difference in %llu small walks\n", (unsigned long long)ask_small_walks());
+        return 0;
     }
     uint64_t seed = strtoull(word[2], NULL, 10);
     if (word[1][0] == '=') {

@@ -33,6 +33,9 @@ struct draft {
 /* A plan that breaks no rule, of any kind; `size` 0 is small, 2 up to 32 blocks. */
 void make_valid(struct random *r, struct draft *draft, uint32_t size);
 
+/* One that breaks no rule and has iterated periods. */
+void make_rounds(struct random *r, struct draft *draft);
+
 /* Changes a draft around one of the rules 5 to 17, often to just this side or just the other of its edge. */
 void bend(struct random *r, struct draft *draft, uint32_t rule);
 

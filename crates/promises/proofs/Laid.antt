@@ -20,7 +20,7 @@ use Rattle.plan.specs.declared.Head.{Head}
 use Rattle.layout.specs.Layout.{Written, bodyOf, laidOut}
 use Rattle.plan.specs.declared.Dose.{Dose}
 use Rattle.verdict.specs.Verdict.{planLimit}
-use Rattle.promises.specs.Plans.{head, unmarked, marked, ranging, daily, fixed, need, mixed, empty, revision}
+use Rattle.promises.specs.Plans.{head, unmarked, marked, ranging, iterated, daily, fixed, need, mixed, empty, revision}
 
 pub record DoseRight (d : Dose) : Type 0 where
   pub fits : DoseFits d
@@ -56,13 +56,16 @@ ranging-right x y l m =
 
 -- a period from `first` to `last`
 module _ (first last : ℕ) (f : first < 4294967296) (l : last < 4294967296) (s : isNoSpan first last ≡ false) where
-  pub daily-right : {ds : List Dose} → Every DoseRight ds → PeriodRight (daily first last ds)
-  unfolding daily
-  daily-right h =
+  pub iterated-right : (n : ℕ) → n < 65536 → {ds : List Dose} → Every DoseRight ds → PeriodRight (iterated n first last ds)
+  iterated-right n i h =
       record {
-        fits = record { header = record { interval = omega arith; first = f; end = l }; doses = every-map (λ d (r : DoseRight d). r .fits) h };
+        fits = record { header = record { interval = i; first = f; end = l }; doses = every-map (λ d (r : DoseRight d). r .fits) h };
         ranged = record { days = s; doses = every-map (λ d (r : DoseRight d). r .ranged) h };
       }
+
+  pub daily-right : {ds : List Dose} → Every DoseRight ds → PeriodRight (daily first last ds)
+  unfolding daily
+  daily-right h = iterated-right 1 (omega arith) h
 
   pub fixed-right : PeriodRight (fixed first last)
   unfolding fixed

@@ -6,6 +6,7 @@ use Rattle.promises.proofs.Demand3.{demand3}
 use Rattle.promises.proofs.Example.{example}
 use Rattle.promises.proofs.Once.{once}
 use Rattle.promises.proofs.Paper.{paper}
+use Rattle.promises.proofs.Rounds.{rounds}
 use Rattle.promises.proofs.ShutOut.{shut-out}
 use Rattle.promises.proofs.Witnesses.{witnesses}
 
@@ -15,6 +16,7 @@ kept =
       first = demand1;
       second = demand2;
       third = demand3;
+      rounds = rounds;
       witnesses = witnesses;
       paper = paper;
       example = example;

@@ -27,9 +27,9 @@ use Rattle.verdict.specs.declared.Answer.the-variants.{Accepted, Broken}
 use Rattle.verdict.specs.declared.Group.the-variants.{All}
 use Rattle.promises.specs.Cases.{oneDaily, twoDaily, signedPlan}
 use Rattle.promises.specs.Plans.{head, unmarked, marked, ranging, daily, fixed, need, mixed, empty, plan, revision}
-use Rattle.promises.specs.Witnesses.{bothKinds, onlyNeed}
+use Rattle.promises.specs.Witnesses.{bothKinds, onlyNeed, weekly}
 use Rattle.promises.proofs.Judging.{clearFrom5, anyAfter, holes-after, together-after, is-broken, is-hole, is-accepted}
-use Rattle.promises.proofs.Laid.{PeriodRight, unmarked-right, marked-right, ranging-right, daily-right, fixed-right, need-right, mixed-right, empty-right, laid-formed, laid-are-bytes}
+use Rattle.promises.proofs.Laid.{PeriodRight, unmarked-right, marked-right, ranging-right, iterated-right, daily-right, fixed-right, need-right, mixed-right, empty-right, laid-formed, laid-are-bytes}
 
 -- what is computed of a plan: it is short, no rule from 5 to 16 is broken, and whether the day after some period is a hole
 record Computed (n : ℕ) (ws : List Written) (hole : Bool) : Type 0 where
@@ -66,9 +66,10 @@ record Everything : Type 0 where
   both : Computed 1 (mixed 6547 6550 ∷ []) false
   kinds : Computed 1 bothKinds false
   needs : Computed 1 onlyNeed false
+  weeks : Computed 1 weekly false
 
 all : Everything
-unfolding head unmarked marked ranging daily fixed need mixed empty revision oneDaily twoDaily bothKinds onlyNeed filled headBytes periodStart doseBytes periodBlock bodyOf laidOut numberAt bytesOf put sealed listBelow joinOver firstFrom firstBelow anyBelow countBelow sumBelow largestBelow doseBreaks tooMuch aheadOf limitOf periodBreaks doseOf blockAt moreOf dosesOf doseIn hasUnmarked hasMarked classOf bare sharesWith shares breaks meetsAt meets holeAt isMember holeAfter clearFrom5 anyAfter
+unfolding head unmarked marked ranging daily fixed need mixed empty revision oneDaily twoDaily bothKinds onlyNeed weekly filled headBytes periodStart doseBytes periodBlock bodyOf laidOut numberAt bytesOf put sealed listBelow joinOver firstFrom firstBelow anyBelow countBelow sumBelow largestBelow doseBreaks tooMuch aheadOf limitOf periodBreaks doseOf blockAt moreOf dosesOf doseIn hasUnmarked hasMarked classOf bare sharesWith shares breaks meetsAt meets holeAt isMember holeAfter clearFrom5 anyAfter
 all =
     record {
       p6 = record { few = refl; some = refl; clear = refl; after = refl };
@@ -86,6 +87,7 @@ all =
       both = record { few = refl; some = refl; clear = refl; after = refl };
       kinds = record { few = refl; some = refl; clear = refl; after = refl };
       needs = record { few = refl; some = refl; clear = refl; after = refl };
+      weeks = record { few = refl; some = refl; clear = refl; after = refl };
     }
 
 -- the verdict by it
@@ -166,6 +168,13 @@ needs-accepted = of-accepted (omega arith) only-need (all .needs) refl
   where
     only-need : Every PeriodRight onlyNeed
     only-need = unfold onlyNeed in more (daily-right 8000 openMark (omega arith) (omega arith) refl (more (marked-right 300 (omega arith)) none)) none
+
+-- the plan of the steps
+pub weekly-accepted : verdictOf (plan weekly) ≡ Accepted (length (plan weekly))
+weekly-accepted = of-accepted (omega arith) weekly-right (all .weeks) refl
+  where
+    weekly-right : Every PeriodRight weekly
+    weekly-right = unfold weekly in more (iterated-right 8000 8105 (omega arith) (omega arith) refl 7 (omega arith) (more (unmarked-right 100 (omega arith)) none)) none
 
 -- the plan that is signed, in both revisions
 signed-right : Every PeriodRight (fixed 8000 openMark ∷ [])

@@ -39,6 +39,7 @@ use Rattle.promises.proofs.Paper.{numbered, four-ok, slot-bytes, slot-l
 use Rattle.promises.proofs.Releases.{released-numbers, released-plan, released-ok}
 use Rattle.promises.proofs.Supplies.{P10, P11}
 use Rattle.promises.proofs.Verdicts.{P7, P9, two-accepted, four-bytes, both-accepted, both-bytes}
+use Rattle.promises.proofs.Weekly.{in-one-period, seven-days, four-rounds, two-steps, packed-two-steps, seven-steps}
 
 record Computed : Type 0 where
   run : hasRun false (plan (fixed 6547 6550 ∷ empty 6551 6556 ∷ fixed 6557 6560 ∷ [])) 1 ≡ true
@@ -122,4 +123,10 @@ witnesses =
       packed-four-dates = packed-four-dates;
       packed-end-date = packed-end-date;
       packed-need-dates = packed-need-dates;
+      in-one-period = in-one-period;
+      seven-days = seven-days;
+      four-rounds = four-rounds;
+      two-steps = two-steps;
+      packed-two-steps = packed-two-steps;
+      seven-steps = seven-steps;
     }

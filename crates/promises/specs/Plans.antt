@@ -21,8 +21,12 @@ marked amount = record { day = 1; kind = 2; mark = 1; minute = 0; low = amount; 
 unfoldable pub ranging : ℕ → ℕ → Dose
 ranging low high = record { day = 1; kind = 1; mark = 0; minute = 0; low = low; high = high }
 
+-- in rounds of n days
+abbrev pub iterated : ℕ → ℕ → ℕ → List Dose → Written
+iterated n first last ds = record { header = record { interval = n; first = first; end = last }; doses = ds }
+
 unfoldable pub daily : ℕ → ℕ → List Dose → Written
-daily first last ds = record { header = record { interval = 1; first = first; end = last }; doses = ds }
+daily first last ds = iterated 1 first last ds
 
 -- "fixed 6547-6550", "need 6551-6554", "mixed 6548-6551", "empty 6551-6556"
 unfoldable pub fixed : ℕ → ℕ → Written

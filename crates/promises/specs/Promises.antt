@@ -5,6 +5,7 @@ use Rattle.promises.specs.Demand2.{Demand2}
 use Rattle.promises.specs.Demand3.{Demand3}
 use Rattle.promises.specs.Example.{Example}
 use Rattle.promises.specs.Once.{Once}
+use Rattle.promises.specs.Rounds.{Rounds}
 use Rattle.promises.specs.ShutOut.{ShutOut}
 use Rattle.promises.specs.Witnesses.{Witnesses}
 
@@ -12,7 +13,9 @@ pub record Promises : Type 0 where
   pub first : Demand1
   pub second : Demand2
   pub third : Demand3
-  -- no demand is met for want of a case
+  -- document 02, W12: "Whole rounds at a time."
+  pub rounds : Rounds
+  -- nothing is promised for want of a case
   pub witnesses : Witnesses
   -- "The P cases are proved as a single statement over a list."
   pub paper : Paper

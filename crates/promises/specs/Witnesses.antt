@@ -1,6 +1,7 @@
 -- No promise holds for want of a case: a plan that is accepted and one that is not, a history that does release, a plan with doses
--- in both parts on one day, supplies that cover days and stop for each reason, and sets of dates of each kind.
-use Prim.Native.Nat.{ℕ}
+-- in both parts on one day, supplies that cover days and stop for each reason, sets of dates of each kind, and supplies in fewer steps
+-- than days.
+use Prim.Native.Nat.{ℕ, _*_}
 use mathlib.Core.Bool.{true, false}
 use mathlib.Core.List.{List, [], _∷_}
 use mathlib.Core.Path.{_≡_}
@@ -8,6 +9,9 @@ use lib.ListN.{length, replicate}
 use Rattle.day.specs.Days.{openMark}
 use Rattle.doses.specs.Doses.{dosesOn}
 use Rattle.layout.specs.Layout.{Written}
+use Rattle.need.specs.Need.{stopDay}
+use Rattle.plan.specs.Fields.{intervalOf}
+use Rattle.plan.specs.Periods.{blockAt}
 use Rattle.register.specs.History.{Event, isOk}
 use Rattle.register.specs.Promise.{givenBy}
 use Rattle.register.specs.Reached.{seen, IsBytes, Reached}
@@ -16,13 +20,15 @@ use Rattle.register.specs.Steps.{Call.clear, Call.submit, Call.sign, Call.relea
 use Rattle.split.specs.Parts.{hasRun}
 use Rattle.split.specs.Split.{splitOf, refusalIn}
 use Rattle.supply.specs.Dates.{datesOf, packedDatesOf}
+use Rattle.supply.specs.Steps.{daysFrom}
 use Rattle.supply.specs.Supply.{supplyOf, packedSupplyOf}
 use Rattle.supply.specs.declared.DateSet.the-variants.{Given}
 use Rattle.supply.specs.declared.Supply.the-variants.{Lasts}
 use Rattle.promises.specs.Cases.{oneDaily, twoDaily, oneSlot, output, signedPlan, A, B}
 use Rattle.promises.specs.Demand2.{IsAccepted, IsLowest}
 use Rattle.promises.specs.Demand3.{fixedPart, needPart}
-use Rattle.promises.specs.Plans.{unmarked, marked, ranging, daily, fixed, mixed, empty, plan}
+use Rattle.promises.specs.Plans.{unmarked, marked, ranging, iterated, daily, fixed, mixed, empty, plan}
+use Rattle.promises.specs.Rounds.{inSteps, packedInSteps, InOnePeriod}
 use Rattle.promises.specs.Sets.{NeedOnly}
 
 -- a buffer for a part
@@ -38,6 +44,10 @@ bothKinds = daily 8000 openMark (ranging 100 200 ∷ []) ∷ daily 8000 openMark
 
 unfoldable pub onlyNeed : List Written
 onlyNeed = daily 8000 openMark (marked 300 ∷ []) ∷ []
+
+-- 1.00 on the first day of each week, to 8105
+unfoldable pub weekly : List Written
+weekly = iterated 7 8000 8105 (unmarked 100 ∷ []) ∷ []
 
 pub record Witnesses : Type 0 where
   -- demands 1 and 2: P7 is accepted, P9 breaks rule 16 at block 2, and P7's fixed part has a run
@@ -72,3 +82,11 @@ pub record Witnesses : Type 0 where
   pub packed-four-dates : packedDatesOf (plan bothKinds) 8077 1200 [] ≡ Given (record { end = openMark; minimum = 8088; maximum = 8082; third = 8078; fourth = 8080 })
   pub packed-end-date : packedDatesOf (plan oneDaily) 8077 50000 [] ≡ Given (record { end = 8105; minimum = openMark; maximum = openMark; third = openMark; fourth = openMark })
   pub packed-need-dates : packedDatesOf (plan onlyNeed) 8077 1200 [] ≡ Given (record { end = openMark; minimum = openMark; maximum = openMark; third = 8080; fourth = 8080 })
+  -- W12: a call in a plan of one iterated period, without pauses, with 29 days in two steps, the first of which takes four rounds of seven
+  -- days; and one with as many steps as a round has days: three rounds at once, and six days up to one that needs more than the rest
+  pub in-one-period : InOnePeriod (plan weekly) 8077 [] 1
+  pub seven-days : intervalOf (blockAt (plan weekly) 1) ≡ 7
+  pub four-rounds : daysFrom 2 (plan weekly) [] (stopDay 2 (plan weekly)) 8077 50000 ≡ 4 * 7
+  pub two-steps : inSteps (plan weekly) 8077 50000 2 [] ≡ record { answer = Lasts (record { days = 29; last = 8105; rest = 49500; reason = 2 }); count = 2 }
+  pub packed-two-steps : packedInSteps (plan weekly) 8077 50000 2 [] ≡ record { answer = Lasts (record { days = 29; last = 8105; rest = 49500; reason = 2 }); count = 2 }
+  pub seven-steps : inSteps (plan weekly) 8078 350 2 [] ≡ record { answer = Lasts (record { days = 27; last = 8104; rest = 50; reason = 1 }); count = 7 }

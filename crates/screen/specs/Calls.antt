@@ -17,9 +17,9 @@ use Rattle.split.specs.declared.Parted.the-variants as split
 use Rattle.showing.specs.declared.Stretch.{Stretch}
 use Rattle.register.specs.Steps.{Answered, isDone}
 
--- the version of include/chivetassel.h that these calls are declared in, 1.1.0: 10,000 times its first number, 100 times its second, and its third
+-- the version of include/chivetassel.h that these calls are declared in, 1.1.1: 10,000 times its first number, 100 times its second, and its third
 abbrev pub version : ℕ
-version = 10100
+version = 10101
 
 -- a buffer with numbers of 64 bits from byte i on
 unfoldable pub written : List ℕ → ℕ → List ℕ → List ℕ

@@ -38,7 +38,7 @@ ghost use Rattle.screen.specs.Calls.{version, written, tooShort, code26,
 pub extern "C" fn chivetassel_version() -> u32
     ensures { λ r. ⌜ r ≡ version ⌝ }
 {
-    10100
+    10101
 }
 
 // The verdict on a plan: the number plus 256 times the place.

@@ -1,28 +1,31 @@
 -- What the walk counts on holds of every plan that is accepted. Assumes nothing.
-use Prim.Native.Nat.{ℕ, zero, suc, _-_, _%_, _≤_, _<_}
+use Prim.Native.Nat.{ℕ, zero, suc, _-_, _*_, _%_, _≤_, _<_}
 use mathlib.Core.Bool.{true, false, not, _&&_, _||_}
-use mathlib.Core.List.{List}
+use mathlib.Core.List.{List, []}
 use mathlib.Core.Logic.{_⊎_, ⊎-elim}
 use mathlib.Core.Path.{_≡_, sym, _∙_}
 use native.Mathlib.Nat.{eq-or-lt-of-le}
 use native.Mathlib.Omega.{arith}
 use lib.Dec.{eqb, leb, ltb}
 use lib.ListN.{length}
-use borrow.Author.Tests.{ltb-false, lt-ltb, leb-true, le-leb, eqb-true, not-false}
+use lib.Seq.{drop-length, take-nil}
+use borrow.Author.Tests.{ltb-false, lt-ltb, leb-true, le-leb, eqb-true, ne-eqb, not-false}
 use Rattle.below.proofs.Search.{any-not}
 use Rattle.below.proofs.Tests.{and-both, or-either, or-neither, not-true-false}
+use Rattle.block.proofs.Numbers.{number-past}
 use Rattle.doses.specs.Doses.{covers}
+use Rattle.form.proofs.Formed.{dated}
 use Rattle.need.proofs.Bound.{in-range}
 use Rattle.need.proofs.Rows.{chosen-in}
 use Rattle.period.specs.Doses.{falls, doseBreaks}
 use Rattle.period.specs.Period.{limitOf, periodBreaks}
-use Rattle.plan.specs.Fields.{firstOf, lastOf}
+use Rattle.plan.specs.Fields.{intervalOf, firstOf, lastOf}
 use Rattle.plan.specs.Periods.{blocksOf, blockAt, isPeriod, dosesOf, doseIn, classOf, empty, fixed, need}
-use Rattle.verdict.proofs.Exactly.{NoRuleBroken}
+use Rattle.verdict.proofs.Exactly.{NoRuleBroken, formed-of}
 use Rattle.verdict.proofs.Lowest.{row-period, row-16}
 use Rattle.verdict.specs.Coverage.{mayShare, sharesWith, shares}
 use Rattle.verdict.specs.Verdict.{planLimit}
-use Rattle.supply.specs.code.Standing.{Sorted, Orderly}
+use Rattle.supply.specs.code.Standing.{Sorted, InRound, Orderly}
 
 -- of two periods that may share a day one is need, and the other is not
 record Mixed (x y : ℕ) : Type 0 where
@@ -78,6 +81,17 @@ module _ (p : List ℕ) (ok : NoRuleBroken p) where
   short : length p ≤ 16384
   short = ltb-false _ _ (or-neither (eqb (length p) 0 || not (eqb (length p % 512) 0)) (ltb planLimit (length p)) (ok .long) .1)
 
+  whole : length p % 512 ≡ 0
+  whole = eqb-true _ _ (not-false _ (or-neither (eqb (length p) 0) _ (or-neither (eqb (length p) 0 || not (eqb (length p % 512) 0)) (ltb planLimit (length p)) (ok .long) .0) .1))
+
+  -- past all blocks there is nothing
+  ends : intervalOf (blockAt p (blocksOf p)) ≡ 0
+  unfolding blockAt
+  ends =
+      let e : blocksOf p * 512 ≡ length p = omega (arith, whole) in
+      let n : blockAt p (blocksOf p) ≡ [] = rw (e, drop-length p, take-nil {A = ℕ} 512) in
+      rw n (number-past 2 [] 2 (omega arith))
+
   module _ (b : ℕ) (l : b < blocksOf p) (e : isPeriod p b ≡ true) where
     -- rule 7 at one dose
     unbroken : (j : ℕ) → j < dosesOf p b → doseBreaks (limitOf (blockAt p b)) 7 (doseIn p b) j ≡ false
@@ -92,6 +106,13 @@ module _ (p : List ℕ) (ok : NoRuleBroken p) where
         let x = or-neither (falls (doseIn p b) (suc j)) _ (unbroken (suc j) q) .0 in
         let m : suc j - 1 ≡ j = omega arith in
         ltb-false _ _ (rw (lt-ltb 0 (suc j) (omega arith), m) at x)
+
+    -- in an iterated period no day number passes the interval
+    pub in-round : 0 < intervalOf (blockAt p b) → InRound p b
+    unfolding doseBreaks limitOf
+    in-round i j q =
+        let x = or-neither (falls (doseIn p b) j) _ (unbroken j q) .1 in
+        ltb-false _ _ (rw (ne-eqb (intervalOf (blockAt p b)) 0 (λ z. omega arith), lt-ltb 0 (intervalOf (blockAt p b)) i) at x)
 
     sorted : Sorted p b
     sorted i zero a q = let z : i ≡ 0 = omega arith in rw z (omega arith)
@@ -123,7 +144,10 @@ module _ (p : List ℕ) (ok : NoRuleBroken p) where
       let r = in-range p ok in
       record {
         few = omega (arith, short);
+        ends = ends;
+        dated = dated (formed-of p ok);
         sorted = sorted;
         small = λ b l e. record { few = r .few b l e; each = λ j h. chosen-in choice (doseIn p b j) 9999999999 (r .low b j l e h) (r .upper b j l e h) };
+        rounds = in-round;
         two = two;
       }

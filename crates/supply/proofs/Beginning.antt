@@ -31,10 +31,11 @@ pub record Fresh (p : List ℕ) (a : Asked) (choice : ℕ) (w : Walk) : Type 0 w
   pub start-is : w .start ≡ a .start
   pub stop-is : w .stop ≡ stopDay choice p
   pub day-is : w .day ≡ a .start
+  pub count-is : w .count ≡ 0
   pub rest-is : w .rest ≡ a .pack
   pub known : Known choice p (a .start) (w .today)
 
-never : {p : List ℕ} {choice : ℕ} {w : Walk} {r : Refusal} → RefusedBy r w → Ready choice p w
+never : {p cs : List ℕ} {choice : ℕ} {w : Walk} {r : Refusal} → RefusedBy r w → Ready choice p cs w
 never (t, g, e) =
     record {
       over = λ z. g;
@@ -87,13 +88,14 @@ module _ {p : List ℕ} {a : Asked} {choice : ℕ} {w : Walk} where
                 record {
                   over = λ z. absurd (true-not-false z (x .unrefused-is));
                   goes = λ z. x .on;
-                  first = λ z. x .day-is ∙ sym (x .start-is);
+                  first = λ z. (x .day-is ∙ sym (x .start-is), x .count-is);
                   at =
                       λ z.
                       record {
                         orderly = orderly p ok choice;
+                        classed = j .classed f;
                         on = x .on;
-                        begun = omega (arith, x .day-is, x .start-is);
+                        counted = omega (arith, x .day-is, x .start-is, x .count-is);
                         within = omega (arith, x .day-is, x .stop-is, u .stop-in);
                         dated = omega (arith, x .stop-is, stop-day-in choice p ok);
                         known = rw (x .day-is) (x .known);

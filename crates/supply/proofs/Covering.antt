@@ -3,14 +3,14 @@
 use Prim.Native.Nat.{ℕ, zero, suc, _+_, _-_, _≤_, _<_}
 use mathlib.Core.Bool.{cond}
 use mathlib.Core.Logic.{_⊎_, inl, inr, ⊎-elim}
-use mathlib.Core.Path.{_≡_, _∙_}
+use mathlib.Core.Path.{_≡_, ap, _∙_}
 use native.Mathlib.Nat.{eq-or-lt-of-le}
 use native.Mathlib.Omega.{arith}
 use lib.Dec.{eqb, ltb}
 use borrow.Author.Tests.{lt-ltb, le-ltb, ltb-true, ltb-false}
 use Rattle.below.proofs.Search.{NoneBelow, none-zero, none-more, first-is, first-end, first-facts}
 use Rattle.below.proofs.Tests.{le-or-lt}
-use Rattle.below.proofs.Total.{sum-zero, sum-more}
+use Rattle.below.proofs.Total.{sum-zero, sum-more, sum-plus, sum-same}
 use Rattle.day.specs.Days.{lastNumber, openMark}
 use Rattle.supply.specs.Covered.{summed, covered}
 use Rattle.supply.specs.Supply.{lastingOf}
@@ -22,6 +22,16 @@ module _ (need : ℕ → ℕ) (start : ℕ) where
 
   pub summed-more : (n : ℕ) → summed need start (n + 1) ≡ summed need start n + need (start + n)
   summed-more n = sum-more (λ i. need (start + i)) n
+
+  -- a single day
+  pub summed-one : summed need start 1 ≡ need start
+  summed-one = let e : start + 0 ≡ start = omega arith in let n : need (start + 0) ≡ need start = rw e in omega (arith, summed-zero, summed-more 0)
+
+  -- n days and then m more
+  pub summed-plus : (n m : ℕ) → summed need start (n + m) ≡ summed need start n + summed need (start + n) m
+  summed-plus n m =
+      sum-plus (λ i. need (start + i)) n m ∙
+      ap (λ (x : ℕ). summed need start n + x) (sum-same _ _ m (λ i l. let e : start + (n + i) ≡ start + n + i = omega arith in rw e))
 
   summed-rises : (m n : ℕ) → summed need start m ≤ summed need start (m + n)
   summed-rises m zero = let e : m + 0 ≡ m = omega arith in rw e (omega arith)

@@ -1,15 +1,22 @@
 -- The laws of supply.
 pub mod Covering
+pub mod Stepping
+pub mod Counting
+pub mod Bounding
 pub mod Range
 pub mod Steadying
 pub mod Placing
 pub mod Standing
 pub mod Accepted
+pub mod WholeRounds
+pub mod Clearing
 pub mod Refusing
+pub mod OnePeriod
 pub mod Wanting
 pub mod Sets
 pub mod Asking
 pub mod Beginning
+pub mod Striding
 pub mod Walking
 pub mod Unpacked
 pub mod Agreeing

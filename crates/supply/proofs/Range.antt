@@ -1,8 +1,8 @@
--- The doses of a position stand together where day numbers do not fall: what a period needs at a position is the sum over them. Assumes
--- nothing.
-use Prim.Native.Nat.{ℕ, zero, suc, _+_, _-_, _≤_, _<_}
+-- The doses of a position stand together where day numbers do not fall: what a period needs at a position is the sum over them, and a
+-- day needs what the periods that have it need. Assumes nothing.
+use Prim.Native.Nat.{ℕ, zero, suc, _+_, _-_, _≤_, _<_, min}
 use mathlib.Core.Bool.{true, false, cond}
-use mathlib.Core.List.{List}
+use mathlib.Core.List.{List, []}
 use mathlib.Core.Logic.{⊎-elim}
 use mathlib.Core.Path.{_≡_, _∙_}
 use native.Mathlib.Omega.{arith}
@@ -11,15 +11,16 @@ use borrow.Author.Count.{below-more}
 use borrow.Author.Tests.{eq-eqb, ne-eqb, eqb-true, eqb-false}
 use Rattle.plan.specs.Fields.{headerOf}
 use Rattle.below.proofs.Tests.{bool-cases, and-false}
-use Rattle.below.proofs.Total.{sum-zero, sum-more, sum-le}
+use Rattle.below.proofs.Total.{sum-zero, sum-more, sum-le, sum-same}
 use Rattle.below.specs.Below.{sumBelow}
-use Rattle.below.proofs.Lists.{sum-pick}
-use Rattle.doses.specs.Doses.{positionOf, applies, dosesOfPeriod}
-use Rattle.need.specs.Need.{chosen}
+use Rattle.below.proofs.Lists.{sum-pick, sum-join}
+use Rattle.doses.specs.Doses.{covers, positionOf, applies, dosesOfPeriod, dosesOn}
+use Rattle.need.proofs.Chosen.{due-chosen}
+use Rattle.need.specs.Need.{chosen, dueOn}
 use Rattle.below.specs.Lists.{sumOver}
-use Rattle.plan.specs.Periods.{blockAt, dosesOf, doseIn}
+use Rattle.plan.specs.Periods.{blocksOf, blockAt, dosesOf, doseIn}
 use Rattle.plan.specs.declared.Dose.{Dose}
-use Rattle.supply.specs.code.Standing.{Small, From, lowestAt, needAt}
+use Rattle.supply.specs.code.Standing.{Small, From, lowestAt, needAt, needOf}
 
 -- terms that are 0 add nothing
 pub sum-flat : (f : ℕ → ℕ) (m n : ℕ) → ((k : ℕ) → m ≤ k → k < m + n → f k ≡ 0) → sumBelow (m + n) f ≡ sumBelow m f
@@ -27,6 +28,10 @@ sum-flat f m zero h = let e : m + 0 ≡ m = omega arith in rw e
 sum-flat f m (suc n) h =
     let e : m + suc n ≡ m + n + 1 = omega arith in
     rw e (omega (arith, sum-more f (m + n), sum-flat f m n (λ k a b. h k a (omega arith)), h (m + n) (omega arith) (omega arith)))
+
+-- a sum with no term
+pub sum-none : (f : ℕ → ℕ) (n : ℕ) → ((k : ℕ) → k < n → f k ≡ 0) → sumBelow n f ≡ 0
+sum-none f n h = let e : 0 + n ≡ n = omega arith in rw e at (sum-flat f 0 n (λ k a b. h k (omega arith))) ∙ sum-zero f
 
 -- which doses count at a position
 module _ (x : ℕ) (d : Dose) where
@@ -89,9 +94,7 @@ module _ (choice : ℕ) (p : List ℕ) (b x : ℕ) where
 
   pub sums-begin : {n j : ℕ} → n ≡ dosesOf p b → From p b n (lowestAt x) j → Sums n j 0
   sums-begin {n} {j} a f =
-      let e : 0 + j ≡ j = omega arith in
-      let z : sumBelow j term ≡ 0 =
-      rw e at (sum-flat term 0 j (λ k l h. rw (not-before x (doseIn p b k) (f .before k (omega arith))))) ∙ sum-zero term in
+      let z : sumBelow j term ≡ 0 = sum-none term j (λ k l. rw (not-before x (doseIn p b k) (f .before k l))) in
       record {
         all = a;
         within = f .within;
@@ -131,3 +134,19 @@ pub period-sum : (choice : ℕ) (p : List ℕ) (d b : ℕ) →
     sumOver (chosen choice) (dosesOfPeriod p d b) ≡ needAt choice p b (positionOf (headerOf (blockAt p b)) d)
 unfolding dosesOfPeriod needAt
 period-sum choice p d b = sum-pick (chosen choice) (dosesOf p b) _ (doseIn p b)
+
+-- and what a plan needs on a day is what the periods that have it need; no storage has more than 64 blocks
+module _ (choice : ℕ) (p : List ℕ) (d : ℕ) where
+  block-sum : (b : ℕ) → sumOver (chosen choice) (cond (covers p d b) (dosesOfPeriod p d b) []) ≡ cond (covers p d b) (needOf choice p b d) 0
+  unfolding sumOver
+  block-sum b =
+      ⊎-elim
+      (λ (t : covers p d b ≡ true). rw t (period-sum choice p d b))
+      (λ (t : covers p d b ≡ false). rw t)
+      (bool-cases (covers p d b))
+
+  pub plan-sum : blocksOf p ≤ 64 → dueOn choice p d ≡ sumBelow (blocksOf p) (λ b. cond (covers p d b) (needOf choice p b d) 0)
+  unfolding dosesOn
+  plan-sum l =
+      let m : min (blocksOf p) 64 ≡ blocksOf p = omega arith in
+      due-chosen choice p d ∙ rw m (sum-join (chosen choice) (blocksOf p) _) ∙ sum-same _ _ (blocksOf p) (λ b q. block-sum b)

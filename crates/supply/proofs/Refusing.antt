@@ -14,7 +14,7 @@ use Rattle.form.proofs.Formed.{dated}
 use Rattle.need.proofs.Found.{lastIf}
 use Rattle.need.specs.Need.{isChoice, stopsAt, stopDayBy, stopDay}
 use Rattle.plan.specs.Fields.{lastOf}
-use Rattle.plan.specs.Periods.{blocksOf, blockAt, classOf}
+use Rattle.plan.specs.Periods.{blocksOf, blockAt, isPeriod, classOf}
 use Rattle.verdict.proofs.Exactly.{NoRuleBroken, formed-of}
 use Rattle.supply.specs.Supply.{askedBy, ownBy, refusedBy}
 
@@ -94,14 +94,18 @@ unrefused start pack choice pausesOut anyStop stop e =
       stop-in = s .stop-in;
     }
 
--- the stop day is a day of the calendar
-pub stop-day-in : (choice : ℕ) (p : List ℕ) → NoRuleBroken p → stopDay choice p ≤ lastNumber
+-- the stop day is no later than a day that is no earlier than any period's last
+pub stop-day-least : (choice : ℕ) (p : List ℕ) (d : ℕ) → ((b : ℕ) → b < blocksOf p → isPeriod p b ≡ true → lastOf (blockAt p b) ≤ d) → stopDay choice p ≤ d
 unfolding stopDayBy
-stop-day-in choice p n =
+stop-day-least choice p d h =
     let stops = stopsAt choice (classOf p) p in
-    largest-least (lastIf stops (λ b. lastOf (blockAt p b))) lastNumber (blocksOf p)
+    largest-least (lastIf stops (λ b. lastOf (blockAt p b))) d (blocksOf p)
     (λ b l.
     ⊎-elim
-    (λ (t : stops b ≡ true). rw t (dated (formed-of p n) b l (and-both _ _ t .0) .1))
+    (λ (t : stops b ≡ true). rw t (h b l (and-both _ _ t .0)))
     (λ (t : stops b ≡ false). rw t (omega arith))
     (bool-cases (stops b)))
+
+-- so it is a day of the calendar
+pub stop-day-in : (choice : ℕ) (p : List ℕ) → NoRuleBroken p → stopDay choice p ≤ lastNumber
+stop-day-in choice p n = stop-day-least choice p lastNumber (λ b l t. dated (formed-of p n) b l t .1)

@@ -1,65 +1,165 @@
--- The walk's loop over the days: what holds at each day of it, that it ends, and that what it ends in is the answer. Assumes nothing.
+-- The walk by steps: that a step of the code is one of the definition, what holds at each turn of the loop, and that what it ends in is the
+-- answer. Assumes nothing.
 use Prim.Native.Nat.{ℕ, _+_, _-_, _≤_, _<_}
-use mathlib.Core.Bool.{Bool, true, false, cond}
+use mathlib.Core.Bool.{Bool, true, false}
 use mathlib.Core.List.{List}
 use mathlib.Core.Logic.{⊎-elim}
 use mathlib.Core.Path.{_≡_, refl, sym, ap, _∙_}
 use native.Mathlib.Omega.{arith}
-use lib.Dec.{eqb}
-use borrow.Author.Tests.{le-leb, lt-leb}
 use Rattle.below.proofs.Tests.{bool-cases, true-not-false, le-or-lt}
 use Rattle.day.specs.Days.{openMark}
-use Rattle.need.specs.Need.{dueOn, needOn}
+use Rattle.need.specs.Need.{needOn}
+use Rattle.pause.proofs.InSight.{sight-reached, sight-steady, sight-ends}
+use Rattle.pause.specs.Sight.{sightOf}
 use Rattle.pause.specs.declared.Pause.{Pause}
-use Rattle.pause.specs.Pauses.{isPaused}
+use Rattle.pause.specs.declared.Sight.{Sight}
 use Rattle.refusal.specs.declared.Refusal.{Refusal}
-use Rattle.supply.specs.declared.ask.Asked.{Asked}
-use Rattle.supply.specs.declared.Lasting.{Lasting}
-use Rattle.supply.specs.declared.Supply.the-variants.{Lasts, Refused}
-use Rattle.supply.specs.declared.walk.Walk.{Walk}
+use Rattle.supply.specs.Covered.{summed}
+use Rattle.supply.specs.Steps.{State, daysFrom, after, stepsOf, lastingBy}
 use Rattle.supply.specs.Supply.{lastingOf}
 use Rattle.supply.specs.code.Asking.{answeredBy, Begun}
-use Rattle.supply.specs.code.Standing.{Known}
-use Rattle.supply.specs.code.Walking.{Going, Ready, Stepped, Ended, lastingAt, endedOf}
-use Rattle.supply.proofs.Covering.{Walked, walk-begins, walk-goes-on, lasting-short, lasting-long}
+use Rattle.supply.specs.code.Walking.{Going, Ready, Seen, Advanced, stateOf, outcomeOf, left, Onward, Went, lastingAt, Ended, endedOf}
+use Rattle.supply.specs.declared.Lasting.{Lasting}
+use Rattle.supply.specs.declared.Supply.the-variants.{Lasts, Refused}
+use Rattle.supply.specs.declared.ask.Asked.{Asked}
+use Rattle.supply.specs.declared.taking.Stride.{Stride}
+use Rattle.supply.specs.declared.walk.Walk.{Walk}
+use Rattle.supply.proofs.Counting.{steps-last}
+use Rattle.supply.proofs.Stepping.{daysAt, after-over, after-step}
 
--- ---- one day of a walk that has shown that the days ahead of its own are covered
-module _ (need : ℕ → ℕ) (pack : ℕ) where
-  -- the days from the start to the one ahead of the walk's day are covered
-  abbrev pub Covered : Walk → Type 0
-  Covered w = Walked need (w .start) (w .stop + 1 - w .start) pack (w .day - w .start) (w .rest)
+-- what the list says from a day on is what the walk has in sight
+pub seen-from : (ps : List Pause) (d : ℕ) {s : Sight} → d ≤ openMark → s ≡ sightOf ps d → Seen ps d s
+seen-from ps d l e =
+    rw e
+    (record {
+      reached = sight-reached ps d l;
+      steady = λ f a b. sight-steady ps d a b;
+      ends = λ t h. sight-ends ps d t h;
+    })
 
-  module _ (w : Walk) (begun : w .start ≤ w .day) where
-    there : w .start + (w .day - w .start) ≡ w .day
-    there = omega arith
+-- it is so on a later day, as far as it goes
+pub seen-later : {ps : List Pause} {d e : ℕ} {s : Sight} → Seen ps d s → d ≤ e → e ≤ s .until → Seen ps e s
+seen-later k l h = record { reached = h; steady = λ f a b. k .steady f (omega arith) b; ends = k .ends }
 
-    -- the last covered day, counted from the start
-    last-is : cond (eqb (w .day - w .start) 0) openMark (w .day - 1) ≡ cond (eqb (w .day - w .start) 0) openMark (w .start + (w .day - w .start) - 1)
-    last-is = ap (λ d. cond (eqb (w .day - w .start) 0) openMark (d - 1)) (sym there)
+-- ---- one step
+module _ (choice : ℕ) (p cs : List ℕ) (s : Sight) (w r : Walk) (g : Going choice p cs w) where
+  there : w .start + (w .day - w .start) ≡ w .day
+  there = omega (arith, g .counted)
 
-    goes-on : Covered w → w .day ≤ w .stop → need (w .day) ≤ w .rest → Walked need (w .start) (w .stop + 1 - w .start) pack (w .day + 1 - w .start) (w .rest - need (w .day))
-    goes-on k l h =
-        let e : w .day + 1 - w .start ≡ w .day - w .start + 1 = omega arith in
-        rw e (rw there at (walk-goes-on need (w .start) k (omega arith) (rw there h)))
+  -- there is none: the walk is over
+  pub went-over : ((ps : List Pause) → Seen ps (w .day) s → daysFrom choice p ps (w .stop) (w .day) (w .rest) ≡ 0) →
+      r ≡ record { refused = w .refused; refusal = w .refusal; going = false; start = w .start; stop = w .stop; day = w .day; count = w .count; rest = w .rest; today = w .today } → Went choice p cs s w r
+  went-over none same =
+      rw same
+      (record {
+        less = rw (g .on) (omega arith);
+        later = omega arith;
+        at = λ e. absurd (true-not-false e refl);
+        onward =
+            λ ps seen.
+            record {
+              refused-is = refl;
+              refusal-is = refl;
+              start-is = refl;
+              stop-is = refl;
+              begun = omega (arith, g .counted);
+              outcome-is = refl;
+              over = λ e. after-over choice p ps (w .start) (w .stop) (w .stop + 1 - w .day) (stateOf w) (rw there (none ps seen));
+            };
+      })
 
-    -- the day needs more than the rest: the walk is over
-    short : Covered w → w .day ≤ w .stop → w .rest < need (w .day) → lastingAt w ≡ lastingOf need (w .start) (w .stop) pack
-    short k l h = rw (le-leb (w .day) (w .stop) l) (lasting-short need (w .start) (w .stop) k last-is (omega arith) (rw there h))
+  -- a step of the days of x
+  module _ (x : Stride) (some : 0 < x .days) (a : Advanced choice p w x r) where
+    -- either it goes on or its days reached past the stop day
+    goes : r .going ≡ true → w .day + x .days ≤ w .stop
+    goes e = ⊎-elim (λ z. z) (λ (z : w .stop < w .day + x .days). absurd (true-not-false e (a .over z))) (le-or-lt (w .day + x .days) (w .stop))
 
-    -- the day lies behind the stop day: the walk is over
-    long : Covered w → w .stop < w .day → lastingAt w ≡ lastingOf need (w .start) (w .stop) pack
-    long k l = rw (lt-leb (w .day) (w .stop) l) (lasting-long need (w .start) (w .stop) k last-is (omega arith) refl)
+    ended : r .going ≡ false → r .stop + 1 - r .day ≡ 0
+    ended e =
+        ⊎-elim
+        (λ (l : w .day + x .days ≤ w .stop). absurd (true-not-false (a .goes l .0) e))
+        (λ (l : w .stop < w .day + x .days). omega (arith, a .day-is, a .stop-is))
+        (le-or-lt (w .day + x .days) (w .stop))
 
--- what is left of the walk: its days, and that it still goes
-abbrev pub left : Walk → ℕ
-left w = w .stop + 1 - w .day + cond (w .going) 1 0
+    less : left r < left w
+    less =
+        ⊎-elim
+        (λ (e : r .going ≡ true). let l = goes e in rw (e, g .on, a .day-is, a .stop-is) (omega arith))
+        (λ (e : r .going ≡ false). rw (e, g .on, a .day-is, a .stop-is) (omega (arith, g .within)))
+        (bool-cases (r .going))
 
-module _ (choice : ℕ) (p : List ℕ) (ps : List Pause) where
-  need-is : (d : ℕ) → cond (isPaused ps d) 0 (dueOn choice p d) ≡ needOn choice p ps d
-  unfolding needOn
-  need-is d = refl
+    module _ (ps : List Pause) (days : daysFrom choice p ps (w .stop) (w .day) (w .rest) ≡ x .days) (need : x .need ≡ summed (needOn choice p ps) (w .day) (x .days)) where
+      days-at : daysAt choice p ps (w .start) (w .stop) (stateOf w) ≡ x .days
+      days-at = rw there days
 
-  -- what holds of the walk w at each turn of the loop, where it began as w₀
+      state-is : record { rest = w .rest - summed (needOn choice p ps) (w .day) (x .days); days = w .day - w .start + x .days; count = w .count + 1 } ≡ stateOf r
+      state-is =
+          let d : r .day - r .start ≡ w .day - w .start + x .days = omega (arith, a .day-is, a .start-is, g .counted) in
+          rw (a .rest-is, d, a .count-is, need)
+
+      outcome : outcomeOf choice p ps r ≡ outcomeOf choice p ps w
+      outcome =
+          let q = after-step choice p ps (w .start) (w .stop) (stateOf w) (rw days-at some) in
+          let m : w .start + (w .day - w .start + x .days) ≡ w .day + x .days = omega (arith, g .counted) in
+          rw (← state-is, a .start-is, a .stop-is, a .day-is) (sym (rw (days-at, there, m) at q))
+
+      onward : Onward choice p ps w r
+      unfolding after
+      onward =
+          record {
+            refused-is = a .refused-is;
+            refusal-is = a .refusal-is;
+            start-is = a .start-is;
+            stop-is = a .stop-is;
+            begun = omega (arith, a .day-is, a .start-is, g .counted);
+            outcome-is = outcome;
+            over = λ e. rw (ended e);
+          }
+
+    pub went-step : ((ps : List Pause) → Seen ps (w .day) s → (daysFrom choice p ps (w .stop) (w .day) (w .rest) ≡ x .days) × (x .need ≡ summed (needOn choice p ps) (w .day) (x .days))) → Went choice p cs s w r
+    went-step of =
+        record {
+          less = less;
+          later = omega (arith, a .day-is);
+          at =
+              λ e.
+              let l = goes e in
+              record {
+                orderly = g .orderly;
+                classed = g .classed;
+                on = e;
+                counted = omega (arith, a .day-is, a .start-is, a .count-is, g .counted);
+                within = omega (arith, a .day-is, a .stop-is);
+                dated = omega (arith, a .stop-is, g .dated);
+                known = rw (a .day-is) (a .goes l .1);
+              };
+          onward = λ ps seen. let y = of ps seen in onward ps (y .0) (y .1);
+        }
+
+-- steps one after the other
+pub went-more : {choice : ℕ} {p cs : List ℕ} {s : Sight} {w v r : Walk} → Went choice p cs s w v → v .day ≤ s .until → Went choice p cs s v r → Went choice p cs s w r
+went-more a l b =
+    record {
+      less = omega (arith, a .less, b .less);
+      later = omega (arith, a .later, b .later);
+      at = b .at;
+      onward =
+          λ ps seen.
+          let x = a .onward ps seen in
+          let y = b .onward ps (seen-later seen (a .later) l) in
+          record {
+            refused-is = y .refused-is ∙ x .refused-is;
+            refusal-is = y .refusal-is ∙ x .refusal-is;
+            start-is = y .start-is ∙ x .start-is;
+            stop-is = y .stop-is ∙ x .stop-is;
+            begun = y .begun;
+            outcome-is = y .outcome-is ∙ x .outcome-is;
+            over = y .over;
+          };
+    }
+
+module _ (choice : ℕ) (p cs : List ℕ) (ps : List Pause) where
+  -- ---- what holds of the walk w at each turn of the loop, where it began as w₀
   pub record Inv (w₀ w : Walk) : Type 0 where
     pub refused-is : w .refused ≡ w₀ .refused
     pub refusal-is : w .refusal ≡ w₀ .refusal
@@ -67,16 +167,16 @@ module _ (choice : ℕ) (p : List ℕ) (ps : List Pause) where
     pub stop-is : w .stop ≡ w₀ .stop
     pub over : w₀ .refused ≡ true → w .going ≡ false
     pub begun : w₀ .refused ≡ false → w .start ≤ w .day
-    pub at : w .going ≡ true → Going choice p w
-    pub covered : w .going ≡ true → Covered (needOn choice p ps) (w₀ .rest) w
-    pub done : w₀ .refused ≡ false → w .going ≡ false → lastingAt w ≡ lastingOf (needOn choice p ps) (w .start) (w .stop) (w₀ .rest)
+    pub at : w .going ≡ true → Going choice p cs w
+    pub outcome-is : w₀ .refused ≡ false → outcomeOf choice p ps w ≡ stepsOf choice p ps (w₀ .start) (w₀ .stop) (w₀ .rest)
+    pub done : w₀ .refused ≡ false → w .going ≡ false → outcomeOf choice p ps w ≡ stateOf w
 
   module _ (w₀ : Walk) where
     -- a walk that goes is not refused
     unrefused : {b : Bool} → (w₀ .refused ≡ true → b ≡ false) → b ≡ true → w₀ .refused ≡ false
     unrefused o g = ⊎-elim (λ (e : w₀ .refused ≡ true). absurd (true-not-false g (o e))) (λ e. e) (bool-cases (w₀ .refused))
 
-    pub begins : Ready choice p w₀ → Inv w₀ w₀
+    pub begins : Ready choice p cs w₀ → Inv w₀ w₀
     begins r =
         record {
           refused-is = refl;
@@ -84,109 +184,49 @@ module _ (choice : ℕ) (p : List ℕ) (ps : List Pause) where
           start-is = refl;
           stop-is = refl;
           over = r .over;
-          begun = λ n. r .at n .begun;
+          begun = λ n. let z = r .at n .counted in omega arith;
           at = λ g. r .at (unrefused (r .over) g);
-          covered =
-              λ g.
-              let e : w₀ .day - w₀ .start ≡ 0 = omega (arith, r .first (unrefused (r .over) g)) in
-              rw e (walk-begins (needOn choice p ps) (w₀ .start) (w₀ .stop + 1 - w₀ .start) (w₀ .rest));
+          outcome-is = λ n. let f = r .first n in let z : w₀ .day - w₀ .start ≡ 0 = omega (arith, f .0) in rw (z, f .0, f .1);
           done = λ n g. absurd (true-not-false (r .goes n) g);
         }
 
-    -- a turn of the loop: the walk w goes, and r is a day further or over
-    module _ (w r : Walk) (i : Inv w₀ w) (going : w .going ≡ true) (s : Stepped choice p (isPaused ps (w .day)) w r) where
-      abbrev need : ℕ
-      need = needOn choice p ps (w .day)
+    pub turns : {w r : Walk} {s : Sight} → Inv w₀ w → w .going ≡ true → Seen ps (w .day) s → Went choice p cs s w r → Inv w₀ r
+    turns i going seen t =
+        let o = t .onward ps seen in
+        let fine = unrefused (i .over) going in
+        record {
+          refused-is = o .refused-is ∙ i .refused-is;
+          refusal-is = o .refusal-is ∙ i .refusal-is;
+          start-is = o .start-is ∙ i .start-is;
+          stop-is = o .stop-is ∙ i .stop-is;
+          over = λ e. absurd (true-not-false e fine);
+          begun = λ e. o .begun;
+          at = t .at;
+          outcome-is = λ e. o .outcome-is ∙ i .outcome-is e;
+          done = λ e. o .over;
+        }
 
-      abbrev here : Going choice p w
-      here = i .at going
-
-      abbrev fine : w₀ .refused ≡ false
-      fine = unrefused (i .over) going
-
-      -- the day, the rest and whether it goes may change, and nothing else of a walk that is not refused
-      moved : r .start ≤ r .day → (r .going ≡ true → Going choice p r) → Covered (needOn choice p ps) (w₀ .rest) r →
-          (r .going ≡ false → lastingAt r ≡ lastingOf (needOn choice p ps) (r .start) (r .stop) (w₀ .rest)) → Inv w₀ r
-      moved starts at covered done =
-          record {
-            refused-is = s .refused-is ∙ i .refused-is;
-            refusal-is = s .refusal-is ∙ i .refusal-is;
-            start-is = s .start-is ∙ i .start-is;
-            stop-is = s .stop-is ∙ i .stop-is;
-            over = λ e. absurd (true-not-false e fine);
-            begun = λ e. starts;
-            at = at;
-            covered = λ g. covered;
-            done = λ e. done;
-          }
-
-      -- the day needs more than the rest
-      steps-short : w .rest < need → Inv w₀ r × (left r < left w)
-      steps-short l =
-          let c : (r .going ≡ false) × (r .day ≡ w .day) × (r .rest ≡ w .rest) = s .short (rw (need-is (w .day)) l) in
-          let starts : r .start ≤ r .day = omega (arith, here .begun, s .start-is, c .1) in
-          let within : r .day ≤ r .stop = omega (arith, here .within, s .stop-is, c .1) in
-          let same : Covered (needOn choice p ps) (w₀ .rest) r = rw (s .start-is, s .stop-is, c .1, c .2) (i .covered going) in (
-            moved starts (λ g. absurd (true-not-false g (c .0))) same (λ g. short (needOn choice p ps) (w₀ .rest) r starts same within (rw (c .1, c .2) l)),
-            rw (c .0, going, c .1, s .stop-is) (omega arith),
-          )
-
-      -- the rest has what the day needs
-      module _ (l : need ≤ w .rest) where
-        taken : (r .day ≡ w .day + 1) × (r .rest ≡ w .rest - need)
-        taken = rw (need-is (w .day)) at (s .more (rw (need-is (w .day)) l))
-
-        further : Covered (needOn choice p ps) (w₀ .rest) r
-        further = rw (s .start-is, s .stop-is, taken .0, taken .1) (goes-on (needOn choice p ps) (w₀ .rest) w (here .begun) (i .covered going) (here .within) l)
-
-        starts : r .start ≤ r .day
-        starts = omega (arith, here .begun, s .start-is, taken .0)
-
-        -- there is a next day
-        steps-on : w .day < w .stop → Inv w₀ r × (left r < left w)
-        steps-on m =
-            let c : (r .going ≡ true) × Known choice p (w .day + 1) (r .today) = s .goes (rw (need-is (w .day)) l) m in
-            let at : Going choice p r =
-            record {
-              orderly = here .orderly;
-              on = c .0;
-              begun = starts;
-              within = omega (arith, s .stop-is, taken .0);
-              dated = omega (arith, here .dated, s .stop-is);
-              known = rw (taken .0) (c .1);
-            } in
-            (moved starts (λ g. at) further (λ g. absurd (true-not-false (c .0) g)), rw (c .0, going, taken .0, s .stop-is) (omega arith))
-
-        -- the day was the stop day
-        steps-over : w .stop ≤ w .day → Inv w₀ r × (left r < left w)
-        steps-over m =
-            let c : r .going ≡ false = s .over (rw (need-is (w .day)) l) m in
-            let past : r .stop < r .day = omega (arith, s .stop-is, taken .0) in (
-              moved starts (λ g. absurd (true-not-false g c)) further (λ g. long (needOn choice p ps) (w₀ .rest) r starts further past),
-              rw (c, going, taken .0, s .stop-is) (omega (arith, here .within)),
-            )
-
-      pub steps : Inv w₀ r × (left r < left w)
-      steps =
-          ⊎-elim
-          (λ (l : need ≤ w .rest). ⊎-elim (λ (m : w .stop ≤ w .day). steps-over l m) (λ (m : w .day < w .stop). steps-on l m) (le-or-lt (w .stop) (w .day)))
-          (λ (l : w .rest < need). steps-short l)
-          (le-or-lt need (w .rest))
-
-    pub ends : (w : Walk) → Inv w₀ w → w .going ≡ false → Ended choice p ps w₀ w
-    ends w i g =
+    pub ends : {w : Walk} → Inv w₀ w → w .going ≡ false → Ended choice p ps w₀ w
+    ends i g =
         record {
           refused-is = i .refused-is;
           refusal-is = i .refusal-is;
           begun = i .begun;
-          lasting-is =
-              λ n.
-              let e : lastingOf (needOn choice p ps) (w .start) (w .stop) (w₀ .rest) ≡ lastingOf (needOn choice p ps) (w₀ .start) (w₀ .stop) (w₀ .rest) = rw (i .start-is, i .stop-is) in
-              i .done n g ∙ e;
+          start-is = i .start-is;
+          stop-is = i .stop-is;
+          state-is = λ e. sym (i .done e g) ∙ i .outcome-is e;
         }
 
 -- ---- the answer
 module _ (p : List ℕ) (a : Asked) (choice : ℕ) (ps : List Pause) (b w : Walk) (begun : Begun p a choice b) (over : Ended choice p ps b w) where
+  -- what the walk says is what the state after the last step says, which is the daily walk's answer
+  lasting-is : b .refused ≡ false → lastingAt w ≡ lastingOf (needOn choice p ps) (b .start) (b .stop) (b .rest)
+  lasting-is e =
+      let l = over .begun e in
+      let z : w .start + (w .day - w .start) ≡ w .day = omega arith in
+      let q : lastingAt w ≡ lastingBy (w .start) (w .stop) (stateOf w) = rw z in
+      q ∙ ap (λ (s : State). lastingBy (w .start) (w .stop) s) (over .state-is e) ∙ rw (over .start-is, over .stop-is) (steps-last choice p ps (b .start) (b .stop) (b .rest))
+
   pub answers : endedOf w ≡ answeredBy p a choice ps
   answers =
       ⊎-elim
@@ -195,7 +235,7 @@ module _ (p : List ℕ) (a : Asked) (choice : ℕ) (ps : List Pause) (b w : Walk
       rw t (ap (λ (x : Refusal). Refused x) (over .refusal-is) ∙ sym (begun .refused-is e ps)))
       (λ (e : b .refused ≡ false).
       let t : w .refused ≡ false = over .refused-is ∙ e in
-      rw t (ap (λ (x : Lasting). Lasts x) (over .lasting-is e) ∙ sym (begun .lasts-is e ps)))
+      rw t (ap (λ (x : Lasting). Lasts x) (lasting-is e) ∙ sym (begun .lasts-is e ps)))
       (bool-cases (b .refused))
 
 -- what `ended` asks

@@ -2,6 +2,7 @@
 use crate::ask::Asked;
 use crate::place::NO_PERIOD;
 use crate::place::NO_PLACE;
+use crate::rounds::NO_ROUND;
 use crate::today::Today;
 use crate::today::on_day;
 use crate::walk::Walk;
@@ -51,12 +52,14 @@ fn refused(refusal: Refusal) -> Walk
         start: 0,
         stop: 0,
         day: 0,
+        count: 0,
         rest: 0,
         today: Today {
             first: NO_PERIOD,
             in_first: NO_PLACE,
             until: 0,
             same: 0,
+            rounds: NO_ROUND,
             second: NO_PERIOD,
             in_second: NO_PLACE,
         },
@@ -87,7 +90,8 @@ pub(crate) fn begin(plan: &[u8], asked: Asked, choice: u32) -> Walk
         start: asked.start,
         stop: stop.day,
         day: asked.start,
+        count: 0,
         rest: asked.pack,
-        today: on_day(plan, choice, asked.start),
+        today: on_day(plan, choice, classes, asked.start),
     }
 }

@@ -1,5 +1,5 @@
-// Supply and the set of dates with the pauses as a lent list of records: the ways in, and the walk, which asks on each day whether the list
-// pauses it. The borrow checker covers none: each is short, leaves its work to functions on values, and has its proof by hand.
+// Supply and the set of dates with the pauses as a lent list of records: the ways in, and the walk, which asks the list what it says from a
+// day on. The borrow checker covers none: each is short, leaves its work to functions on values, and has its proof by hand.
 use crate::DateSet;
 use crate::Supply;
 use crate::ask::Asked;
@@ -11,24 +11,24 @@ use crate::walk::Walk;
 use crate::walk::day_of;
 use crate::walk::ended;
 use crate::walk::is_going;
-use crate::walk::next;
+use crate::walk::stretch;
 use pause::Pause;
 use pause::are_out;
-use pause::paused;
+use pause::sight_from;
 ghost use mathlib.Core.Path.{_≡_};
 ghost use Rattle.supply.specs.Dates.{datesOf};
 ghost use Rattle.supply.specs.Supply.{supplyOf};
 ghost use Rattle.supply.specs.code.Asking.{Judged, answeredBy};
 ghost use Rattle.supply.specs.code.Walking.{Ready, Ended};
 
-// The walk, day by day.
-fn walked(plan: &[u8], choice: u32, pauses: &[Pause], begun: Walk) -> Walk
-    requires { ⌜ Ready choice (now plan) begun ⌝ }
+// The walk, stretch by stretch: pauses split it.
+fn walked(plan: &[u8], choice: u32, asked: Asked, pauses: &[Pause], begun: Walk) -> Walk
+    requires { ⌜ Ready choice (now plan) (asked .classes) begun ⌝ }
     ensures { λ r. ⌜ Ended choice (now (plan .entry)) (now (pauses .entry)) begun r ⌝ }
 {
     let mut w = begun;
     while is_going(w) {
-        w = next(plan, choice, w, paused(pauses, day_of(w)));
+        w = stretch(plan, choice, asked, w, sight_from(pauses, day_of(w)));
     }
     w
 }
@@ -38,7 +38,7 @@ pub(crate) fn supply_by(plan: &[u8], asked: Asked, choice: u32, pauses: &[Pause]
     requires { ⌜ Judged (now plan) asked ⌝ }
     ensures { λ r. ⌜ r ≡ answeredBy (now (plan .entry)) asked choice (now (pauses .entry)) ⌝ }
 {
-    ended(walked(plan, choice, pauses, begin(plan, asked, choice)))
+    ended(walked(plan, choice, asked, pauses, begin(plan, asked, choice)))
 }
 
 // How far a pack lasts, with the pauses as a lent list of records.

@@ -4,6 +4,7 @@ use crate::position::due_at;
 use crate::position::first_from;
 use crate::position::lowest_at;
 use doses::position_of;
+use need::is_stopping;
 use plan::block_of;
 use plan::doses_of;
 use plan::interval_of;
@@ -11,7 +12,8 @@ ghost use mathlib.Core.Path.{_≡_};
 ghost use mathlib.Core.Bool.{true};
 ghost use Prim.Native.Nat.{_+_, _≤_, _<_};
 ghost use Rattle.day.specs.Days.{lastNumber};
-ghost use Rattle.supply.specs.code.Standing.{positionBehind, doseFrom, isStill, Placed, Moved, Stands, IsAt, InPeriod};
+ghost use Rattle.supply.specs.code.Standing.{positionBehind, doseFrom, isStill, Placed, Moved, Stands, IsAt, InPeriod, keptOf};
+ghost use Rattle.verdict.specs.code.Ready.{Classed};
 
 // The period at block b, in rounds of `interval` days, has `doses` doses. Or there is none.
 pub(crate) struct Period {
@@ -42,19 +44,48 @@ pub(crate) const NO_PLACE: Place = Place {
     behind: 0,
 };
 
-// The period at block b, if there is such a block.
-pub(crate) fn period_at(plan: &[u8], b: u8) -> Period
-    ensures { λ r. ⌜ IsAt (now (plan .entry)) b r ⌝ }
+// A period as the plan has it, of any class; `chosen` says that it has doses of the choice. Or there is none.
+pub(crate) struct Candidate {
+    pub any: bool,
+    pub chosen: bool,
+    pub b: u8,
+    pub doses: u16,
+    pub interval: u32,
+}
+
+// The period at block b, if there is such a block. `classes` has the class of the period at each block.
+pub(crate) fn period_at(plan: &[u8], choice: u32, classes: [u8; 32], b: u8) -> Candidate
+    requires { ⌜ Classed (now plan) classes ⌝ }
+    ensures { λ r. ⌜ IsAt choice (now (plan .entry)) b r ⌝ }
 {
     if (b as usize) < plan.len() / 512 {
-        return Period {
+        return Candidate {
             any: true,
+            chosen: is_stopping(choice, classes[b as usize]),
             b,
             doses: doses_of(plan, b),
             interval: interval_of(block_of(plan, b as u16)) as u32,
         };
     }
-    NO_PERIOD
+    Candidate {
+        any: false,
+        chosen: false,
+        b: 0,
+        doses: 0,
+        interval: 0,
+    }
+}
+
+// The period, if it has doses of the choice: the others need nothing.
+pub(crate) fn kept(t: Candidate) -> Period
+    ensures { λ r. ⌜ r ≡ keptOf t ⌝ }
+{
+    Period {
+        any: t.any & t.chosen,
+        b: t.b,
+        doses: t.doses,
+        interval: t.interval,
+    }
 }
 
 // In the period, does each day need what the one ahead of it needs, as in rounds of one day?
@@ -80,6 +111,14 @@ pub(crate) fn place_on(plan: &[u8], choice: u32, day: u32, t: Period) -> Place
         position: position as u32,
         behind: due.behind as u32,
     }
+}
+
+// What the day needs in two periods, by its places there.
+pub(crate) fn due_in(x: Place, y: Place) -> u64
+    requires { ⌜ x .due + y .due < 18446744073709551616 ⌝ }
+    ensures { λ r. ⌜ r ≡ x .due + y .due ⌝ }
+{
+    x.due + y.due
 }
 
 // The position of the day behind: it rises, and begins again where a round ends. A remainder would take longer.

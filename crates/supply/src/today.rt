@@ -1,11 +1,15 @@
-// Where a day stands in the periods that have it. By rule 16 there are two at the most; the day has a place in each, which knows nothing of
-// the other. The doses that count are not asked for here: those that do not, by the choice, add nothing.
+// Where a day stands in the periods that have it. By rule 16 there are two at the most; the day has a place in each that has doses of the
+// choice, which knows nothing of the other.
 use crate::place::Period;
 use crate::place::Place;
+use crate::place::due_in;
 use crate::place::is_still;
+use crate::place::kept;
 use crate::place::next_place;
 use crate::place::period_at;
 use crate::place::place_on;
+use crate::rounds::Round;
+use crate::rounds::rounds_on;
 use crate::until::periods_until;
 use doses::is_covering;
 ghost use mathlib.Core.Path.{_≡_};
@@ -14,15 +18,16 @@ ghost use Prim.Native.Nat.{_+_, _≤_};
 ghost use Rattle.day.specs.Days.{lastNumber};
 ghost use Rattle.plan.specs.Periods.{blocksOf};
 ghost use Rattle.supply.specs.code.Standing.{Orderly, Placed, Known, Behind, Next};
+ghost use Rattle.verdict.specs.code.Ready.{Classed};
 
 // The day stands in the periods `first` and `second`, at a place in each. Up to day `until` the days are in the same periods, and up to
-// day `same` each needs what the one ahead of it needs. The order is the compiler's: what a steady day only hands on stands in words of 8
-// bytes, each beside one that is looked at.
+// day `same` each needs what the one ahead of it needs. `rounds` are those that may be taken, pauses apart.
 pub(crate) struct Today {
     pub first: Period,
     pub in_first: Place,
     pub until: u32,
     pub same: u32,
+    pub rounds: Round,
     pub second: Period,
     pub in_second: Place,
 }
@@ -51,23 +56,29 @@ fn steady_until(still: bool, day: u32, until: u32) -> u32
 }
 
 // A day's periods and places, worked out from the plan.
-pub(crate) fn on_day(plan: &[u8], choice: u32, day: u32) -> Today
-    requires { ⌜ Orderly choice (now plan) × (day ≤ lastNumber) ⌝ }
+pub(crate) fn on_day(plan: &[u8], choice: u32, classes: [u8; 32], day: u32) -> Today
+    requires { ⌜ Orderly choice (now plan) × Classed (now plan) classes × (day ≤ lastNumber) ⌝ }
     ensures { λ r. ⌜ Known choice (now (plan .entry)) day r ⌝ }
 {
     let until = periods_until(plan, day);
     let b = covering_from(plan, day, 0);
     let c = covering_from(plan, day, b + 1);
-    let first = period_at(plan, b);
-    let second = period_at(plan, c);
+    let one = period_at(plan, choice, classes, b);
+    let other = period_at(plan, choice, classes, c);
+    let first = kept(one);
+    let second = kept(other);
     let same = steady_until(is_still(first) & is_still(second), day, until);
+    let in_first = place_on(plan, choice, day, first);
+    let in_second = place_on(plan, choice, day, second);
+    let due = due_in(in_first, in_second);
     Today {
         first,
-        in_first: place_on(plan, choice, day, first),
+        in_first,
         until,
         same,
+        rounds: rounds_on(plan, choice, classes, day, one, other, due),
         second,
-        in_second: place_on(plan, choice, day, second),
+        in_second,
     }
 }
 

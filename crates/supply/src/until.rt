@@ -13,9 +13,9 @@ ghost use Rattle.plan.specs.Periods.{blocksOf};
 ghost use Rattle.supply.specs.code.Standing.{Steady};
 
 // No change lies ahead.
-const NEVER: u32 = Day::OPEN.number;
+pub(crate) const NEVER: u32 = Day::OPEN.number;
 
-fn least(x: u32, y: u32) -> u32
+pub(crate) fn least(x: u32, y: u32) -> u32
     ensures { λ r. ⌜ r ≡ min x y ⌝ }
 {
     if x < y { x } else { y }

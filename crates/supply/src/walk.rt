@@ -1,21 +1,26 @@
-// The walk over the days.
+// The walk over the days, by steps.
 use crate::Lasting;
 use crate::Supply;
+use crate::ask::Asked;
+use crate::taking::Stride;
+use crate::taking::next_stride;
 use crate::today::Today;
 use crate::today::next_day;
 use crate::today::on_day;
 use day::Day;
+use pause::Sight;
 use refusal::Refusal;
 ghost use mathlib.Core.Path.{_≡_};
-ghost use Prim.Native.Nat.{_+_, _-_, _≤_, _<_};
+ghost use Prim.Native.Nat.{_-_, _≤_};
 ghost use mathlib.Core.Bool.{false, cond};
-ghost use lib.Dec.{eqb};
+ghost use lib.Dec.{eqb, leb};
 ghost use Rattle.day.specs.Days.{lastNumber, openMark};
-ghost use Rattle.supply.specs.code.Standing.{Orderly, Known};
-ghost use Rattle.supply.specs.code.Walking.{Going, Stepped, reasonAt, endedOf};
+ghost use Rattle.supply.specs.code.Standing.{Orderly};
+ghost use Rattle.supply.specs.code.Walking.{Going, Stays, Renewed, Advanced, Went, reasonAt, endedOf};
+ghost use Rattle.verdict.specs.code.Ready.{Classed};
 
-// The walk stands on `day`, with a rest, and goes on as long as `going`; where supply is refused it never goes. It is handed on by value
-// each day: its fields, and those of what it holds, leave no gap, so that the compiler keeps them in registers.
+// The walk stands on `day`, with a rest, after `count` steps, and goes on as long as `going`; where supply is refused it never goes. It is
+// handed on by value at each step: its fields, and those of what it holds, leave no gap, so that the compiler keeps them in registers.
 pub(crate) struct Walk {
     pub refused: bool,
     pub refusal: Refusal,
@@ -23,6 +28,7 @@ pub(crate) struct Walk {
     pub start: u32,
     pub stop: u32,
     pub day: u32,
+    pub count: u64,
     pub rest: u64,
     pub today: Today,
 }
@@ -50,53 +56,73 @@ fn reason_at(day: u32, stop: u32) -> u8
     if stop == Day::LAST.number { 3 } else { 2 }
 }
 
-// What the day needs: nothing if it is paused.
-fn need_of(t: Today, paused: bool) -> u64
-    requires { ⌜ t .in_first .due + t .in_second .due < 18446744073709551616 ⌝ }
-    ensures { λ r. ⌜ r ≡ cond paused 0 (t .in_first .due + t .in_second .due) ⌝ }
-{
-    if paused {
-        return 0;
-    }
-    let first = t.in_first;
-    let second = t.in_second;
-    first.due + second.due
-}
-
-// The day behind that of t, which stands on the day ahead of `day`.
-fn today_at(plan: &[u8], choice: u32, day: u32, t: Today) -> Today
-    requires { ⌜ Orderly choice (now plan) ⌝ }
-    requires { ⌜ (1 ≤ day) × (day ≤ lastNumber) × Known choice (now plan) (day - 1) t ⌝ }
-    ensures { λ r. ⌜ Known choice (now (plan .entry)) day r ⌝ }
-{
-    if t.until < day {
-        return on_day(plan, choice, day);
-    }
-    next_day(plan, choice, t)
-}
-
-// The walk after the day that it stands on.
-pub(crate) fn next(plan: &[u8], choice: u32, w: Walk, paused: bool) -> Walk
-    requires { ⌜ Going choice (now plan) w ⌝ }
-    ensures { λ r. ⌜ Stepped choice (now (plan .entry)) paused w r ⌝ }
+// The walk, with where its day stands worked out anew.
+fn renewed(plan: &[u8], choice: u32, classes: [u8; 32], w: Walk) -> Walk
+    requires { ⌜ Orderly choice (now plan) × Classed (now plan) classes × (w .day ≤ lastNumber) ⌝ }
+    ensures { λ r. ⌜ Renewed choice (now (plan .entry)) w r ⌝ }
 {
     let mut r = w;
-    let need = need_of(w.today, paused);
-    if w.rest < need {
-        r.going = false;
-        return r;
-    }
-    r.rest = w.rest - need;
-    r.day = w.day + 1;
-    if w.day == w.stop {
+    r.today = on_day(plan, choice, classes, w.day);
+    r
+}
+
+// The walk after the days of a step, which the rest has the need of.
+fn advance(plan: &[u8], choice: u32, classes: [u8; 32], w: Walk, x: Stride) -> Walk
+    requires { ⌜ Going choice (now plan) classes w ⌝ }
+    requires { ⌜ Stays choice (now plan) w x × (x .need ≤ w .rest) ⌝ }
+    ensures { λ r. ⌜ Advanced choice (now (plan .entry)) w x r ⌝ }
+{
+    let mut r = w;
+    let day = w.day + x.days;
+    r.rest = w.rest - x.need;
+    r.day = day;
+    r.count = w.count + 1;
+    if w.stop < day {
         r.going = false;
         return r;
     }
     let t = w.today;
-    if w.day < t.same {
+    if t.until < day {
+        return renewed(plan, choice, classes, r);
+    }
+    if x.still {
         return r;
     }
-    r.today = today_at(plan, choice, w.day + 1, t);
+    r.today = next_day(plan, choice, t);
+    r
+}
+
+// The walk after its next step, or over, where the day needs more than the rest. The sight has its day.
+fn step(plan: &[u8], choice: u32, classes: [u8; 32], w: Walk, s: Sight) -> Walk
+    requires { ⌜ Going choice (now plan) classes w × (w .day ≤ s .until) ⌝ }
+    ensures { λ r. ⌜ Went choice (now (plan .entry)) classes s w r ⌝ }
+{
+    let x = next_stride(w, s);
+    if w.rest < x.need {
+        let mut r = w;
+        r.going = false;
+        return r;
+    }
+    advance(plan, choice, classes, w, x)
+}
+
+// Does the sight have the day? This is the test of each day that is looked at, on plain numbers.
+fn is_in_sight(s: Sight, day: u32) -> bool
+    ensures { λ r. ⌜ r ≡ leb day (s .until) ⌝ }
+{
+    day <= s.until
+}
+
+// The walk up to where the sight ends.
+pub(crate) fn stretch(plan: &[u8], choice: u32, asked: Asked, w: Walk, s: Sight) -> Walk
+    requires { ⌜ Going choice (now plan) (asked .classes) w × (w .day ≤ s .until) ⌝ }
+    ensures { λ r. ⌜ Went choice (now (plan .entry)) (asked .classes) s w r ⌝ }
+{
+    let classes = asked.classes;
+    let mut r = w;
+    while r.going & is_in_sight(s, r.day) {
+        r = step(plan, choice, classes, r, s);
+    }
     r
 }
 

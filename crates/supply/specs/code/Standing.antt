@@ -1,17 +1,21 @@
 -- What the walk counts on, and what it keeps from day to day. No answer is stated by these.
 use Prim.Native.Nat.{ℕ, _+_, _≤_, _<_}
 use mathlib.Core.Path.{_≡_}
-use mathlib.Core.Bool.{Bool, true, false, cond, not, _||_}
+use mathlib.Core.Bool.{Bool, true, false, cond, not, _&&_, _||_}
 use mathlib.Core.List.{List}
-use lib.Dec.{eqb}
-use Rattle.below.specs.Below.{sumBelow}
+use lib.Dec.{eqb, ltb}
+use Rattle.below.specs.Below.{firstBelow, sumBelow}
 use Rattle.doses.specs.Doses.{covers, positionOf, applies}
 use Rattle.need.specs.Need.{chosen, dueOn}
 use Rattle.plan.specs.Fields.{intervalOf, firstOf, headerOf}
 use Rattle.plan.specs.Periods.{blocksOf, blockAt, isPeriod, dosesOf, doseIn}
+use Rattle.supply.specs.Steps.{isChosen, isAlone}
+use Rattle.supply.specs.declared.place.Candidate.{Candidate}
 use Rattle.supply.specs.declared.place.Period.{Period}
 use Rattle.supply.specs.declared.place.Place.{Place}
+use Rattle.supply.specs.declared.rounds.Round.{Round}
 use Rattle.supply.specs.declared.today.Today.{Today}
+use Rattle.verdict.specs.code.Ready.{Dated}
 
 -- day numbers do not fall (rule 7)
 abbrev pub Sorted : List ℕ → ℕ → Type 0
@@ -22,11 +26,18 @@ pub record Small (choice : ℕ) (p : List ℕ) (b : ℕ) : Type 0 where
   pub few : dosesOf p b ≤ 1280
   pub each : (j : ℕ) → j < dosesOf p b → chosen choice (doseIn p b j) ≤ 9999999999
 
+-- its day numbers do not pass the interval (rule 7)
+abbrev pub InRound : List ℕ → ℕ → Type 0
+InRound p b = (j : ℕ) → j < dosesOf p b → doseIn p b j .day ≤ intervalOf (blockAt p b)
+
 -- what the walk counts on: rules 1, 4, 7 and 16, by which no three periods share a day
 pub record Orderly (choice : ℕ) (p : List ℕ) : Type 0 where
   pub few : blocksOf p ≤ 32
+  pub ends : intervalOf (blockAt p (blocksOf p)) ≡ 0
+  pub dated : Dated p
   pub sorted : (b : ℕ) → b < blocksOf p → isPeriod p b ≡ true → Sorted p b
   pub small : (b : ℕ) → b < blocksOf p → isPeriod p b ≡ true → Small choice p b
+  pub rounds : (b : ℕ) → b < blocksOf p → isPeriod p b ≡ true → 0 < intervalOf (blockAt p b) → InRound p b
   pub two : (d a b c : ℕ) → a < b → b < c → c < blocksOf p → covers p d a ≡ true → covers p d b ≡ true → covers p d c ≡ false
 
 -- j is the first dose whose day number is x or more
@@ -43,6 +54,10 @@ lowestAt position = cond (eqb position 1) 0 position
 unfoldable pub needAt : ℕ → List ℕ → ℕ → ℕ → ℕ
 needAt choice p b x =
     sumBelow (dosesOf p b) (λ j. cond (applies x (doseIn p b j)) (chosen choice (doseIn p b j)) 0)
+
+-- what it needs in a round: each of its doses once
+unfoldable pub roundNeed : ℕ → List ℕ → ℕ → ℕ
+roundNeed choice p b = sumBelow (dosesOf p b) (λ j. chosen choice (doseIn p b j))
 
 -- what it needs on day d
 abbrev pub needOf : ℕ → List ℕ → ℕ → ℕ → ℕ
@@ -92,30 +107,53 @@ pub record Stands (choice : ℕ) (p : List ℕ) (d : ℕ) (t : Period) (s : Plac
   pub began : t .any ≡ true → firstOf (blockAt p (t .b)) ≤ d
 
 -- t is the period at block b, or none where there is no such block
-pub record IsAt (p : List ℕ) (b : ℕ) (t : Period) : Type 0 where
+pub record IsAt (choice : ℕ) (p : List ℕ) (b : ℕ) (t : Candidate) : Type 0 where
   pub block : b < blocksOf p → (t .any ≡ true) × (t .b ≡ b)
+  pub chosen-is : b < blocksOf p → isPeriod p b ≡ true → t .chosen ≡ isChosen choice p b
   pub doses-is : b < blocksOf p → t .doses ≡ dosesOf p b
   pub interval-is : b < blocksOf p → t .interval ≡ intervalOf (blockAt p b)
-  pub past : blocksOf p ≤ b → t .any ≡ false
+  pub past : blocksOf p ≤ b → (t .any ≡ false) × (t .chosen ≡ false)
+
+-- the period t if it has doses of the choice, and else none
+abbrev pub keptOf : Candidate → Period
+keptOf t = record { any = t .any && t .chosen; b = t .b; doses = t .doses; interval = t .interval }
+
+-- the test says yes on each day from d to u, and no on the one behind
+pub record Reach (test : ℕ → Bool) (d u : ℕ) : Type 0 where
+  pub reached : d ≤ u
+  pub all : (e : ℕ) → d ≤ e → e ≤ u → test e ≡ true
+  pub next : test (u + 1) ≡ false
+
+-- the first iterated period that day d is in, and in no other with doses of the choice; past all blocks where there is none
+abbrev pub aloneOn : ℕ → List ℕ → ℕ → ℕ
+aloneOn choice p d = firstBelow (blocksOf p) (λ b. ltb 0 (intervalOf (blockAt p b)) && isAlone choice p b d)
+
+-- r has the rounds of that period
+pub record Rounded (choice : ℕ) (p : List ℕ) (d : ℕ) (r : Round) : Type 0 where
+  pub interval-is : r .interval ≡ intervalOf (blockAt p (aloneOn choice p d))
+  pub need-is : 0 < r .interval → r .need ≡ roundNeed choice p (aloneOn choice p d)
+  pub reach : 0 < r .interval → Reach (isAlone choice p (aloneOn choice p d)) d (r .until)
 
 -- what a period needs on a day, if there is one
 abbrev pub needIn : ℕ → List ℕ → Period → ℕ → ℕ
 needIn choice p t d = cond (t .any) (needOf choice p (t .b) d) 0
 
--- t is where day d stands in its periods, and up to day `until` no other period has a day. What a period needs is its own: the other
--- has no part in it
+-- t is where day d stands in its periods with doses of the choice, and up to day `until` the days are in the same periods. What a period
+-- needs is its own: the other has no part in it
 pub record Known (choice : ℕ) (p : List ℕ) (d : ℕ) (t : Today) : Type 0 where
   pub reached : d ≤ t .until
   pub still : d < t .same → (isStill (t .first) ≡ true) × (isStill (t .second) ≡ true)
-  pub same : d < t .same → t .same ≤ t .until
   pub first : Stands choice p d (t .first) (t .in_first)
   pub second : Stands choice p d (t .second) (t .in_second)
   pub sum : (e : ℕ) → d ≤ e → e ≤ t .until → dueOn choice p e ≡ needIn choice p (t .first) e + needIn choice p (t .second) e
+  pub rounded : (e : ℕ) → d ≤ e → e ≤ t .until → Rounded choice p e (t .rounds)
+  pub whose : 0 < t .rounds .interval → (t .first .any ≡ true → t .first .interval ≡ t .rounds .interval) × (t .second .any ≡ true → t .second .interval ≡ t .rounds .interval)
 
 -- r is the day behind that of t, in the same periods
 pub record Behind (choice : ℕ) (p : List ℕ) (t r : Today) : Type 0 where
   pub until-is : r .until ≡ t .until
   pub same-is : r .same ≡ t .same
+  pub rounds-is : r .rounds ≡ t .rounds
   pub first-is : r .first ≡ t .first
   pub second-is : r .second ≡ t .second
   pub first : Moved choice p (t .first) (t .in_first) (r .in_first)
@@ -130,3 +168,12 @@ pub record Next (p : List ℕ) (d lo b : ℕ) : Type 0 where
   pub behind : lo ≤ b
   pub before : (k : ℕ) → lo ≤ k → k < b → covers p d k ≡ false
   pub here : b < blocksOf p → covers p d b ≡ true
+
+-- day d is in the periods `one` and `other`, if there are such, and in no others
+pub record InBoth (choice : ℕ) (p : List ℕ) (d : ℕ) (one other : Candidate) : Type 0 where
+  pub b : ℕ
+  pub c : ℕ
+  pub first : Next p d 0 b
+  pub second : Next p d (b + 1) c
+  pub one-is : IsAt choice p b one
+  pub other-is : IsAt choice p c other

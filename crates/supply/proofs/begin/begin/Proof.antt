@@ -59,7 +59,7 @@ on-day-requires : tie.Need-on-day-requires
 on-day-requires c κs =
     let f = c .before .before .before .before .before .before .before .if1 .left in
     let j = c .before .before .before .before .before .before .before .before .before .pre in
-    (orderly _ (accepted-only _ (j .accepted f .1)) _, j .start-in f)
+    (orderly _ (accepted-only _ (j .accepted f .1)) _, j .classed f, j .start-in f)
 
 returns-4 : tie.Need-returns-4
 returns-4 c =
@@ -71,7 +71,7 @@ returns-4 c =
     let t : isAsked (a .asked) (a .choice) ≡ true = sym (c .before .before .before .before .before .before .before .is-asked .ensures) ∙ not-false _ (c .before .before .before .before .before .before .if2 .left) in
     let l = classed-day (a .choice) k in
     begun-going f t (c .before .before .before .own-by .ensures ∙ rw (s .0, s .1, classed-any (a .choice) k, l)) (c .before .before .if3 .left) j
-    (record { unrefused-is = refl; on = refl; start-is = refl; stop-is = s .1 ∙ l; day-is = refl; rest-is = refl; known = c .on-day .ensures })
+    (record { unrefused-is = refl; on = refl; start-is = refl; stop-is = s .1 ∙ l; day-is = refl; count-is = refl; rest-is = refl; known = c .on-day .ensures })
 
 pub begin-spec : {M : Type 1} → statement M
 begin-spec =

@@ -14,6 +14,7 @@ returns c =
     record {
       until-is = refl;
       same-is = refl;
+      rounds-is = refl;
       first-is = refl;
       second-is = refl;
       first = c .before .before .before .next-place .ensures;
