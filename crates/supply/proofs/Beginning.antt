@@ -12,7 +12,7 @@ use Rattle.refusal.specs.declared.Refusal.{Refusal}
 use Rattle.verdict.proofs.Exactly.{accepted-only}
 use Rattle.supply.specs.Supply.{ownBy}
 use Rattle.supply.specs.code.Asking.{isAsked, answeredBy, Judged, Begun}
-use Rattle.supply.specs.code.Standing.{Known}
+use Rattle.supply.specs.code.Choosing.{Marks}
 use Rattle.supply.specs.code.Walking.{Ready}
 use Rattle.supply.specs.declared.ask.Asked.{Asked}
 use Rattle.supply.specs.declared.Supply.the-variants.{Refused}
@@ -33,9 +33,9 @@ pub record Fresh (p : List ℕ) (a : Asked) (choice : ℕ) (w : Walk) : Type 0 w
   pub day-is : w .day ≡ a .start
   pub count-is : w .count ≡ 0
   pub rest-is : w .rest ≡ a .pack
-  pub known : Known choice p (a .start) (w .today)
+  pub marks : Marks choice p (w .chosen)
 
-never : {p cs : List ℕ} {choice : ℕ} {w : Walk} {r : Refusal} → RefusedBy r w → Ready choice p cs w
+never : {p : List ℕ} {choice : ℕ} {w : Walk} {r : Refusal} → RefusedBy r w → Ready choice p w
 never (t, g, e) =
     record {
       over = λ z. g;
@@ -92,13 +92,16 @@ module _ {p : List ℕ} {a : Asked} {choice : ℕ} {w : Walk} where
                   at =
                       λ z.
                       record {
-                        orderly = orderly p ok choice;
-                        classed = j .classed f;
-                        on = x .on;
-                        counted = omega (arith, x .day-is, x .start-is, x .count-is);
-                        within = omega (arith, x .day-is, x .stop-is, u .stop-in);
-                        dated = omega (arith, x .stop-is, stop-day-in choice p ok);
-                        known = rw (x .day-is) (x .known);
+                        looks =
+                            record {
+                              orderly = orderly p ok choice;
+                              on = x .on;
+                              counted = omega (arith, x .day-is, x .start-is, x .count-is);
+                              within = omega (arith, x .day-is, x .stop-is, u .stop-in);
+                              dated = omega (arith, x .stop-is, stop-day-in choice p ok);
+                            };
+                        marks = x .marks;
+                        known = λ h. absurd (omega (arith, x .count-is));
                       };
                 };
             refused-is = λ z. absurd (true-not-false z (x .unrefused-is));

@@ -19,7 +19,7 @@ use Rattle.plan.specs.Fields.{intervalOf, firstOf, lastOf}
 use Rattle.plan.specs.Periods.{blocksOf, blockAt, isPeriod, dosesOf}
 use Rattle.supply.specs.Covered.{summed}
 use Rattle.supply.specs.Steps.{isChosen, hasOther, isAlone}
-use Rattle.supply.specs.code.Standing.{Small, Orderly, IsAt, keptOf, needOf, roundNeed, needIn, Reach, aloneOn, Rounded, Steady, InBoth}
+use Rattle.supply.specs.code.Standing.{Small, Orderly, Counts, IsAt, keptOf, needOf, roundNeed, needIn, Reach, aloneOn, Rounded, Steady, InBoth}
 use Rattle.supply.specs.declared.place.Candidate.{Candidate}
 use Rattle.supply.specs.declared.rounds.Round.{Round}
 use Rattle.supply.proofs.Accepted.{covers-period, covers-begun}
@@ -99,25 +99,56 @@ module _ (choice : ℕ) (p : List ℕ) (o : Orderly choice p) where
       }
 
 -- a period with doses of the choice that has the day is the one of the rounds, if there are any
-pub whose : {choice : ℕ} {p : List ℕ} {d b : ℕ} {t : Candidate} {r : Round} → Orderly choice p → IsAt choice p b t → (b < blocksOf p → covers p d b ≡ true) → Rounded choice p d r → 0 < r .interval → keptOf t .any ≡ true → t .interval ≡ r .interval
+module _ {choice : ℕ} {p : List ℕ} {d b : ℕ} {t : Candidate} {r : Round} (x : IsAt choice p b t) (has : b < blocksOf p → covers p d b ≡ true) (k : Rounded choice p d r) (i : 0 < r .interval) (a : keptOf t .any ≡ true) where
+  kept-within : b < blocksOf p
+  kept-within = ⊎-elim (λ (l : blocksOf p ≤ b). absurd (true-not-false (and-both (t .any) _ a .0) (x .past l .0))) (λ l. l) (le-or-lt (blocksOf p) b)
+
+  pub kept-chosen : isChosen choice p b ≡ true
+  kept-chosen = sym (x .chosen-is kept-within (covers-period p d b (has kept-within))) ∙ and-both (t .any) _ a .1
+
+  pub kept-on : b ≡ aloneOn choice p d
+  unfolding hasOther
+  kept-on =
+      let q = k .reach i in
+      let n = not-true _ (and-both (covers p d (aloneOn choice p d)) _ (q .all d (omega arith) (q .reached)) .1) in
+      let z = rw (has kept-within, kept-chosen) at (any-not (λ (a : ℕ). not (eqb a (aloneOn choice p d)) && (covers p d a && isChosen choice p a)) n b kept-within) in
+      eqb-true b _ (bare (eqb b (aloneOn choice p d)) z)
+    where
+      bare : (t : Bool) → (not t && true) ≡ false → t ≡ true
+      bare true e = refl
+      bare false e = absurd (true-not-false refl e)
+
+  pub whose : t .interval ≡ r .interval
+  whose = x .interval-is kept-within ∙ rw kept-on (sym (k .interval-is))
+
+-- a day is not alone in a period where another one with doses of the choice has it
+crowded : (choice : ℕ) (p : List ℕ) (d a b : ℕ) → b < blocksOf p → (b ≡ a → ⊥) → covers p d b ≡ true → isChosen choice p b ≡ true → isAlone choice p a d ≡ false
 unfolding hasOther
-whose {choice} {p} {d} {b} {t} {r} o x has k i a =
-    let both = and-both (t .any) (t .chosen) a in
-    ⊎-elim
-    (λ (l : blocksOf p ≤ b). absurd (true-not-false (both .0) (x .past l .0)))
-    (λ (l : b < blocksOf p).
-    let q = k .reach i in
-    let c = has l in
-    let v : isChosen choice p b ≡ true = sym (x .chosen-is l (covers-period p d b c)) ∙ both .1 in
-    let n = not-true _ (and-both (covers p d (aloneOn choice p d)) _ (q .all d (omega arith) (q .reached)) .1) in
-    let z = rw (c, v) at (any-not (λ (a : ℕ). not (eqb a (aloneOn choice p d)) && (covers p d a && isChosen choice p a)) n b l) in
-    let e : b ≡ aloneOn choice p d = eqb-true b _ (bare (eqb b (aloneOn choice p d)) z) in
-    x .interval-is l ∙ rw e (sym (k .interval-is)))
-    (le-or-lt (blocksOf p) b)
-  where
-    bare : (t : Bool) → (not t && true) ≡ false → t ≡ true
-    bare true e = refl
-    bare false e = absurd (true-not-false refl e)
+crowded choice p d a b l n c v = rw (any-hit (λ (k : ℕ). not (eqb k a) && (covers p d k && isChosen choice p k)) l (rw (ne-eqb b a n, c, v)), and-false (covers p d a))
+
+-- rounds of a period with doses of the choice are the same on each day that is in no other: none that comes or goes is iterated and alone
+module _ (choice : ℕ) (p : List ℕ) (o : Orderly choice p) {d : ℕ} {r : Round} (k : Rounded choice p d r) (i : 0 < r .interval) (v : isChosen choice p (aloneOn choice p d) ≡ true) where
+  own-on : (e : ℕ) → d ≤ e → e ≤ r .until → aloneOn choice p e ≡ aloneOn choice p d
+  own-on e l h =
+      let q = k .reach i .all e l h in
+      let w = on-within choice p o k i in
+      let c = and-both (covers p e (aloneOn choice p d)) _ q .0 in
+      first-is (λ (b : ℕ). ltb 0 (intervalOf (blockAt p b)) && isAlone choice p b e) w
+      (λ j m. rw (crowded choice p e j (aloneOn choice p d) w (λ z. omega arith) c v, and-false (ltb 0 (intervalOf (blockAt p j)))))
+      (rw (← k .interval-is, lt-ltb 0 (r .interval) i, q))
+
+  pub own-rounded : (e : ℕ) → d ≤ e → e ≤ r .until → Rounded choice p e r
+  own-rounded e l h =
+      let s = own-on e l h in
+      let q = k .reach i in
+      record {
+        interval-is = k .interval-is ∙ rw s;
+        need-is = λ z. k .need-is z ∙ rw s;
+        reach = λ z. rw s (record { reached = h; all = λ f m y. q .all f (omega arith) y; next = q .next });
+      }
+
+  pub own-need : (e : ℕ) → d ≤ e → e ≤ r .until → dueOn choice p e ≡ needOf choice p (aloneOn choice p d) e
+  own-need e l h = alone-need choice p (aloneOn choice p d) e (o .few) (k .reach i .all e l h) (on-within choice p o k i)
 
 -- in rounds of one day a round needs what the day needs
 due-round : (choice : ℕ) (p : List ℕ) → Orderly choice p → (b d : ℕ) → b < blocksOf p → isAlone choice p b d ≡ true → intervalOf (blockAt p b) ≡ 1 → dueOn choice p d ≡ roundNeed choice p b
@@ -127,16 +158,9 @@ due-round choice p o b d l a i =
     let q = subst (λ (k : ℕ). summed (needOf choice p b) d k ≡ roundNeed choice p b) i (one-round choice p b some (o .rounds b l (alone-period choice p b d a) some) d begun) in
     alone-need choice p b d (o .few) a l ∙ sym (summed-one (needOf choice p b) d) ∙ q
 
--- what `rounds_of` says of a period t, and what it asks
+-- r has the rounds of a period t
 abbrev pub RoundsOf : ℕ → List ℕ → ℕ → Candidate → Round → Type 0
 RoundsOf choice p d t r = (r .interval ≡ t .interval) × (r .need ≡ roundNeed choice p (t .b)) × Reach (isAlone choice p (t .b)) d (r .until)
-
-pub record Asks (choice : ℕ) (p : List ℕ) (d : ℕ) (t : Candidate) (due : ℕ) : Type 0 where
-  pub small : Small choice p (t .b)
-  pub all : t .doses ≡ dosesOf p (t .b)
-  pub within : t .b < blocksOf p
-  pub alone : isAlone choice p (t .b) d ≡ true
-  pub day : t .interval ≡ 1 → due ≡ roundNeed choice p (t .b)
 
 -- a period at block b
 module _ (choice : ℕ) (p : List ℕ) (d : ℕ) {b : ℕ} {t : Candidate} (at : IsAt choice p b t) (l : b < blocksOf p) where
@@ -146,14 +170,12 @@ module _ (choice : ℕ) (p : List ℕ) (d : ℕ) {b : ℕ} {t : Candidate} (at :
       let v : intervalOf (blockAt p (aloneOn choice p d)) ≡ t .interval = rw on (sym (at .interval-is l)) in
       record { interval-is = r .0 ∙ sym v; need-is = λ z. rw (← e) (r .1); reach = λ z. rw (← e) (r .2) }
 
-  asks-by : Orderly choice p → isAlone choice p b d ≡ true → {due : ℕ} → due ≡ dueOn choice p d → Asks choice p d t due
-  asks-by o a z =
+  counts-by : Orderly choice p → isAlone choice p b d ≡ true → {due : ℕ} → due ≡ dueOn choice p d → Counts choice p t due
+  counts-by o a z =
       let e = at .block l .1 in
       record {
         small = rw e (o .small b l (alone-period choice p b d a));
         all = rw e (at .doses-is l);
-        within = rw e l;
-        alone = rw e a;
         day = λ i. rw e (z ∙ due-round choice p o b d l a (sym (at .interval-is l) ∙ i));
       }
 
@@ -192,11 +214,6 @@ module _ (choice : ℕ) (p : List ℕ) (o : Orderly choice p) (d : ℕ) {one oth
       (same-or-not k a)) in
       rw (c, n)
 
-  -- and is not where it has some
-  crowded : (a b : ℕ) → b < blocksOf p → (b ≡ a → ⊥) → covers p d b ≡ true → isChosen choice p b ≡ true → isAlone choice p a d ≡ false
-  unfolding hasOther
-  crowded a b l n c v = rw (any-hit (λ (k : ℕ). not (eqb k a) && (covers p d k && isChosen choice p k)) l (rw (ne-eqb b a n, c, v)), and-false (covers p d a))
-
   apart : x .c ≡ x .b → ⊥
   apart e = omega (arith, x .second .behind)
 
@@ -213,10 +230,10 @@ module _ (choice : ℕ) (p : List ℕ) (o : Orderly choice p) (d : ℕ) {one oth
   alone-other l f = alone-if (x .c) (x .b) l (x .second .here l) (λ k q m n. either k q n m) (λ m z. sym (one-chosen m) ∙ f)
 
   -- which are those of the plan, by what is known of the two
-  one-within : one .any ≡ true → x .b < blocksOf p
+  pub one-within : one .any ≡ true → x .b < blocksOf p
   one-within a = ⊎-elim (λ (l : blocksOf p ≤ x .b). absurd (true-not-false a (x .one-is .past l .0))) (λ l. l) (le-or-lt (blocksOf p) (x .b))
 
-  other-within : other .any ≡ true → x .c < blocksOf p
+  pub other-within : other .any ≡ true → x .c < blocksOf p
   other-within a = ⊎-elim (λ (l : blocksOf p ≤ x .c). absurd (true-not-false a (x .other-is .past l .0))) (λ l. l) (le-or-lt (blocksOf p) (x .c))
 
   abbrev test : ℕ → Bool
@@ -236,7 +253,7 @@ module _ (choice : ℕ) (p : List ℕ) (o : Orderly choice p) (d : ℕ) {one oth
       let h : other .chosen ≡ true = not-false _ (rw (q .0, t) at f) in
       ⊎-elim
       (λ (z : blocksOf p ≤ x .c). absurd (true-not-false h (x .other-is .past z .1)))
-      (λ (z : x .c < blocksOf p). rw (crowded (x .b) (x .c) z apart (x .second .here z) (sym (other-chosen z) ∙ h), and-false (ltb 0 (intervalOf (blockAt p (x .b))))))
+      (λ (z : x .c < blocksOf p). rw (crowded choice p d (x .b) (x .c) z apart (x .second .here z) (sym (other-chosen z) ∙ h), and-false (ltb 0 (intervalOf (blockAt p (x .b))))))
       (le-or-lt (blocksOf p) (x .c)))
       (λ (t : ltb 0 (one .interval) ≡ false). rw (← i, t))
       (bool-cases (ltb 0 (one .interval)))
@@ -249,7 +266,7 @@ module _ (choice : ℕ) (p : List ℕ) (o : Orderly choice p) (d : ℕ) {one oth
       ⊎-elim
       (λ (t : ltb 0 (other .interval) ≡ true).
       let h : one .chosen ≡ true = not-false _ (rw (q .0, t) at f) in
-      rw (crowded (x .c) (x .b) b (λ e. apart (sym e)) (x .first .here b) (sym (one-chosen b) ∙ h), and-false (ltb 0 (intervalOf (blockAt p (x .c))))))
+      rw (crowded choice p d (x .c) (x .b) b (λ e. apart (sym e)) (x .first .here b) (sym (one-chosen b) ∙ h), and-false (ltb 0 (intervalOf (blockAt p (x .c))))))
       (λ (t : ltb 0 (other .interval) ≡ false). rw (← i, t))
       (bool-cases (ltb 0 (other .interval)))
 
@@ -281,18 +298,18 @@ module _ (choice : ℕ) (p : List ℕ) (o : Orderly choice p) (d : ℕ) {one oth
       ⊎-elim (λ (z : k ≡ x .c). rw z (test-other (rw z at q) n)) (λ (z : (k ≡ x .c → ⊥)). test-out k q e z) (same-or-not k (x .c)))
       (same-or-not k (x .b)))
 
-  -- what `rounds_on` says, and what `rounds_of` asks
+  -- what `rounds_on` says, and what it asks
   pub rounded-one : {r : Round} → one .any ≡ true → 0 < one .interval → other .chosen ≡ false → RoundsOf choice p d one r → Rounded choice p d r
   rounded-one a i f = rounded-by choice p d (x .one-is) (one-within a) (on-one a i f)
 
   pub rounded-other : {r : Round} → ((one .any && ltb 0 (one .interval)) && not (other .chosen)) ≡ false → other .any ≡ true → 0 < other .interval → one .chosen ≡ false → RoundsOf choice p d other r → Rounded choice p d r
   rounded-other m a i f = rounded-by choice p d (x .other-is) (other-within a) (on-other m a i f)
 
-  pub asks-one : {due : ℕ} → due ≡ dueOn choice p d → one .any ≡ true → other .chosen ≡ false → Asks choice p d one due
-  asks-one z a f = let l = one-within a in asks-by choice p d (x .one-is) l o (alone-one l f) z
+  pub counts-one : {due : ℕ} → due ≡ dueOn choice p d → one .any ≡ true → other .chosen ≡ false → Counts choice p one due
+  counts-one z a f = let l = one-within a in counts-by choice p d (x .one-is) l o (alone-one l f) z
 
-  pub asks-other : {due : ℕ} → due ≡ dueOn choice p d → other .any ≡ true → one .chosen ≡ false → Asks choice p d other due
-  asks-other z a f = let l = other-within a in asks-by choice p d (x .other-is) l o (alone-other l f) z
+  pub counts-other : {due : ℕ} → due ≡ dueOn choice p d → other .any ≡ true → one .chosen ≡ false → Counts choice p other due
+  counts-other z a f = let l = other-within a in counts-by choice p d (x .other-is) l o (alone-other l f) z
 
   pub rounded-none : {r : Round} → r .interval ≡ 0 → ((one .any && ltb 0 (one .interval)) && not (other .chosen)) ≡ false → ((other .any && ltb 0 (other .interval)) && not (one .chosen)) ≡ false → Rounded choice p d r
   rounded-none {r} z m n =
@@ -301,119 +318,22 @@ module _ (choice : ℕ) (p : List ℕ) (o : Orderly choice p) (d : ℕ) {one oth
 -- ---- up to which day the days are alone
 -- a period has the days from its first to its last
 module _ (p : List ℕ) (d b : ℕ) (c : covers p d b ≡ true) where
-  covers-span : (firstOf (blockAt p b) ≤ d) × (d ≤ lastOf (blockAt p b))
+  pub covers-span : (firstOf (blockAt p b) ≤ d) × (d ≤ lastOf (blockAt p b))
   covers-span =
       let z = and-both (leb (firstOf (blockAt p b)) d) _ (and-both (isPeriod p b) _ c .1) in
       (leb-true _ _ (z .0), leb-true _ _ (z .1))
 
-  covers-all : (e : ℕ) → d ≤ e → e ≤ lastOf (blockAt p b) → covers p e b ≡ true
+  pub covers-all : (e : ℕ) → d ≤ e → e ≤ lastOf (blockAt p b) → covers p e b ≡ true
   covers-all e l h = rw (covers-period p d b c, le-leb (firstOf (blockAt p b)) e (omega (arith, covers-span .0)), le-leb e (lastOf (blockAt p b)) h)
 
 module _ (p : List ℕ) (e b : ℕ) where
-  covers-past : lastOf (blockAt p b) < e → covers p e b ≡ false
+  pub covers-past : lastOf (blockAt p b) < e → covers p e b ≡ false
   covers-past l = rw (lt-leb e (lastOf (blockAt p b)) l, and-false (leb (firstOf (blockAt p b)) e), and-false (isPeriod p b))
 
-  covers-ahead : e < firstOf (blockAt p b) → covers p e b ≡ false
+  pub covers-ahead : e < firstOf (blockAt p b) → covers p e b ≡ false
   covers-ahead l = rw (lt-leb (firstOf (blockAt p b)) e l, and-false (isPeriod p b))
 
 module _ (choice : ℕ) (p : List ℕ) (b : ℕ) where
   -- the period at block c has day e, has doses of the choice, and is another
   abbrev pub isIn : ℕ → ℕ → Bool
   isIn e c = not (eqb c b) && (covers p e c && isChosen choice p c)
-
-  -- day e is in the period at block b, and in none of the first n that are others
-  abbrev pub aloneTo : ℕ → ℕ → Bool
-  aloneTo n e = covers p e b && not (anyBelow n (isIn e))
-
-  module _ {d : ℕ} (c : covers p d b ≡ true) where
-    pub reach-begin : {u : ℕ} → u ≡ lastOf (blockAt p b) → Reach (aloneTo 0) d u
-    reach-begin {u} q =
-        let s = covers-span p d b c in
-        record {
-          reached = omega (arith, s .1);
-          all = λ e l h. rw (any-zero (isIn e), covers-all p d b c e l (omega arith));
-          next = rw (covers-past p (u + 1) b (omega arith));
-        }
-
-  module _ (n : ℕ) {d u : ℕ} (r : Reach (aloneTo n) d u) where
-    -- a period that has none of the days
-    pub reach-skip : ((e : ℕ) → d ≤ e → isIn e n ≡ false) → Reach (aloneTo (n + 1)) d u
-    reach-skip f =
-        let t : (e : ℕ) → d ≤ e → aloneTo (n + 1) e ≡ aloneTo n e = λ e l. rw (any-more (isIn e) n, f e l, or-false (anyBelow n (isIn e))) in
-        record { reached = r .reached; all = λ e l h. t e l ∙ r .all e l h; next = t (u + 1) (omega (arith, r .reached)) ∙ r .next }
-
-    -- one that has day v + 1, and none ahead of it
-    pub reach-least : {v w : ℕ} → d ≤ v → ((e : ℕ) → d ≤ e → e ≤ v → isIn e n ≡ false) → (v < u → isIn (v + 1) n ≡ true) → w ≡ min u v → Reach (aloneTo (n + 1)) d w
-    reach-least {v} {w} l f g q =
-        record {
-          reached = omega (arith, r .reached);
-          all = λ e m h. rw (any-more (isIn e) n, f e m (omega arith), or-false (anyBelow n (isIn e))) (r .all e m (omega arith));
-          next =
-              ⊎-elim
-              (λ (h : u ≤ v).
-              let z : w ≡ u = omega arith in
-              rw z (cut (covers p (u + 1) b) (anyBelow n (isIn (u + 1))) (anyBelow (n + 1) (isIn (u + 1))) (r .next) (λ t. rw (any-more (isIn (u + 1)) n, t))))
-              (λ (h : v < u).
-              let z : w ≡ v = omega arith in
-              rw z (rw (any-more (isIn (v + 1)) n, g h, or-true (anyBelow n (isIn (v + 1))), and-false (covers p (v + 1) b))))
-              (le-or-lt u v);
-        }
-      where
-        cut : (a s t : Bool) → (a && not s) ≡ false → (s ≡ true → t ≡ true) → (a && not t) ≡ false
-        cut false s t e h = refl
-        cut true true t e h = rw (h refl)
-        cut true false t e h = absurd (true-not-false refl e)
-
--- what a turn of the loop adds: the period at block n, if it is another with doses of the choice
-module _ (choice : ℕ) (p : List ℕ) (o : Orderly choice p) (b n : ℕ) {d u : ℕ} (l : n < blocksOf p) (r : Reach (aloneTo choice p b n) d u) where
-  pub reach-none : (not (eqb n b) && (isPeriod p n && isChosen choice p n)) ≡ false → Reach (aloneTo choice p b (n + 1)) d u
-  reach-none f =
-      reach-skip choice p b n r
-      (λ e h.
-      ⊎-elim
-      (λ (z : eqb n b ≡ true). rw z)
-      (λ (z : eqb n b ≡ false).
-      ⊎-elim
-      (λ (t : isPeriod p n ≡ true). let v : isChosen choice p n ≡ false = rw (z, t) at f in rw (z, v) (and-false (covers p e n)))
-      (λ (t : isPeriod p n ≡ false). rw (z, t))
-      (bool-cases (isPeriod p n)))
-      (bool-cases (eqb n b)))
-
-  pub reach-other : {v w : ℕ} → isAlone choice p b d ≡ true → (not (eqb n b) && (isPeriod p n && isChosen choice p n)) ≡ true → u ≤ lastNumber →
-      v ≡ cond (ltb d (firstOf (blockAt p n))) (firstOf (blockAt p n) - 1) openMark → w ≡ min u v → Reach (aloneTo choice p b (n + 1)) d w
-  unfolding hasOther
-  reach-other {v} {w} alone t few q least =
-      let y = and-both (not (eqb n b)) _ t in
-      let z = and-both (isPeriod p n) _ (y .1) in
-      let span = o .dated n l (z .0) in
-      ⊎-elim
-      (λ (h : firstOf (blockAt p n) ≤ d).
-      let k : v ≡ openMark = q ∙ rw (le-ltb d (firstOf (blockAt p n)) h) in
-      let out : covers p d n ≡ false = bare _ (rw (y .0, z .1) at (any-not (isIn choice p b d) (not-true _ (and-both (covers p d b) _ alone .1)) n l)) in
-      let past : lastOf (blockAt p n) < d = leb-false d (lastOf (blockAt p n)) (rw (z .0, le-leb (firstOf (blockAt p n)) d h) at out) in
-      reach-least choice p b n r (omega (arith, r .reached)) (λ e i j. rw (covers-past p e n (omega arith), and-false (not (eqb n b)))) (λ i. absurd (omega arith)) least)
-      (λ (h : d < firstOf (blockAt p n)).
-      let k : v ≡ firstOf (blockAt p n) - 1 = q ∙ rw (lt-ltb d (firstOf (blockAt p n)) h) in
-      let at : v + 1 ≡ firstOf (blockAt p n) = omega arith in
-      reach-least choice p b n r (omega arith) (λ e i j. rw (covers-ahead p e n (omega arith), and-false (not (eqb n b))))
-      (λ i. rw (at, y .0, z .0, z .1, le-leb (firstOf (blockAt p n)) (firstOf (blockAt p n)) (omega arith), le-leb (firstOf (blockAt p n)) (lastOf (blockAt p n)) (span .0)))
-      least)
-      (le-or-lt (firstOf (blockAt p n)) d)
-    where
-      bare : (t : Bool) → (t && true) ≡ false → t ≡ false
-      bare true e = e
-      bare false e = refl
-
--- by its class
-pub other-is : (choice : ℕ) {p cs : List ℕ} → Classed p cs → (b n : ℕ) → n < blocksOf p →
-    (not (eqb n b) && (isPeriod p n && choiceOf choice .stops (getD cs n 0))) ≡ (not (eqb n b) && (isPeriod p n && isChosen choice p n))
-other-is choice {p} k b n l =
-    ⊎-elim
-    (λ (t : isPeriod p n ≡ true). rw (k .entry n l t, chosen-class choice p n))
-    (λ (t : isPeriod p n ≡ false). rw t)
-    (bool-cases (isPeriod p n))
-
--- the loop has gone through all blocks
-pub reach-all : (choice : ℕ) (p : List ℕ) (b : ℕ) {d u n : ℕ} → n ≡ blocksOf p → Reach (aloneTo choice p b n) d u → Reach (isAlone choice p b) d u
-unfolding hasOther
-reach-all choice p b e r = rw e at r

@@ -4,12 +4,13 @@ pub mod Stepping
 pub mod Counting
 pub mod Bounding
 pub mod Range
-pub mod Steadying
 pub mod Placing
 pub mod Standing
 pub mod Accepted
 pub mod WholeRounds
+pub mod Choosing
 pub mod Clearing
+pub mod Surveying
 pub mod Refusing
 pub mod OnePeriod
 pub mod Wanting

@@ -46,6 +46,11 @@ position-some r d =
     (λ (t : eqb (intervalOf r) 0 ≡ false). rw t (omega arith))
     (bool-cases (eqb (intervalOf r) 0))
 
+-- in rounds of one day each has the first
+pub position-one : (r : List ℕ) (d : ℕ) → intervalOf r ≡ 1 → 1 ≡ positionOf (headerOf r) d
+unfolding positionOf
+position-one r d i = rw i (omega arith)
+
 -- and none has one past the days from 0 to it
 pub position-small : (r : List ℕ) (d : ℕ) → positionOf (headerOf r) d ≤ d + 1
 unfolding positionOf

@@ -1,13 +1,13 @@
 -- What the walk keeps from day to day: while the periods stay, a day needs what the periods that have it need at its positions there.
 -- Assumes nothing.
 use Prim.Native.Nat.{ℕ, _+_, _-_, _*_, _≤_, _<_}
-use mathlib.Core.Bool.{Bool, true, false, cond, _&&_}
+use mathlib.Core.Bool.{Bool, true, false, cond, _&&_, _||_}
 use mathlib.Core.List.{List}
 use mathlib.Core.Logic.{⊎-elim}
 use mathlib.Core.Path.{_≡_, refl, sym, ap, subst, _∙_}
-use native.Mathlib.Nat.{eq-or-lt-of-le}
 use native.Mathlib.Omega.{arith}
-use borrow.Author.Tests.{eqb-true}
+use lib.Dec.{ltb}
+use borrow.Author.Tests.{eqb-true, ltb-true}
 use Rattle.below.proofs.Tests.{bool-cases, and-both, true-not-false, le-or-lt}
 use Rattle.below.proofs.Total.{sum-zero, sum-more}
 use Rattle.below.specs.Below.{sumBelow}
@@ -15,7 +15,8 @@ use Rattle.doses.specs.Doses.{covers, positionOf}
 use Rattle.need.specs.Need.{dueOn}
 use Rattle.plan.specs.Fields.{intervalOf, headerOf}
 use Rattle.plan.specs.Periods.{blocksOf, blockAt}
-use Rattle.supply.specs.code.Standing.{Orderly, needAt, needOf, isStill, Moved, InPeriod, Stands, IsAt, keptOf, needIn, Rounded, Known, Behind, Steady, Next}
+use Rattle.supply.specs.code.Standing.{Orderly, needAt, needOf, isStill, Moved, InPeriod, Stands, IsAt, keptOf, aloneOn, needIn, Rounded, Known, Behind, Steady, Next}
+use Rattle.supply.specs.Steps.{isChosen}
 use Rattle.supply.specs.declared.place.Candidate.{Candidate}
 use Rattle.supply.specs.declared.place.Period.{Period}
 use Rattle.supply.specs.declared.place.Place.{Place}
@@ -25,11 +26,7 @@ use Rattle.supply.proofs.Accepted.{covers-period, covers-begun}
 use Rattle.supply.proofs.Placing.{position-behind, position-small}
 use Rattle.supply.proofs.Range.{sum-flat, sum-none, plan-sum, need-small}
 use Rattle.supply.proofs.WholeRounds.{position-rounds}
-use Rattle.supply.proofs.Clearing.{kept-none, kept-some, rounded-later, whose}
-
--- a test that fails from lo to below b fails on b too
-pub none-on : {test : ℕ → Bool} {lo b : ℕ} (p : (k : ℕ) → lo ≤ k → k < b → test k ≡ false) → test b ≡ false → (k : ℕ) → lo ≤ k → k < b + 1 → test k ≡ false
-none-on {b = b} h e k l m = ⊎-elim (λ (q : k ≡ b). rw q e) (λ (q : k < b). h k l q) (eq-or-lt-of-le (let z : k ≤ b = omega arith in z))
+use Rattle.supply.proofs.Clearing.{kept-none, kept-some, on-within, rounded-later, kept-chosen, kept-on, whose, own-rounded, own-need}
 
 -- the first b terms are none but those of f b, if there is one
 sum-next : (f : ℕ → ℕ) (m n b : ℕ) → m ≤ b → b < n → ((k : ℕ) → m ≤ k → k < b → f k ≡ 0) → sumBelow (b + 1) f ≡ sumBelow m f + f b
@@ -95,23 +92,60 @@ module _ (choice : ℕ) (p : List ℕ) (o : Orderly choice p) {d u b c : ℕ} (r
         (le-or-lt (blocksOf p) c))
         (le-or-lt (blocksOf p) b)
 
-    pub known-on-day : {v : ℕ} {i j : Place} {r : Round} → v ≡ cond (isStill (keptOf f) && isStill (keptOf g)) u d → Stands choice p d (keptOf f) i → Stands choice p d (keptOf g) j → Rounded choice p d r →
-        Known choice p d (record { until = u; same = v; rounds = r; first = keptOf f; second = keptOf g; in_first = i; in_second = j })
-    known-on-day q m n k =
+    -- and so they have with rounds of one of them that has doses of the choice, as far as the days are in no other such period
+    own-sum : {r : Round} → Rounded choice p d r → 0 < r .interval → (keptOf f .any || keptOf g .any) ≡ true → ((e : ℕ) → d ≤ e → e ≤ r .until → (dueOn choice p e ≡ needIn choice p (keptOf f) e + needIn choice p (keptOf g) e) × Rounded choice p e r)
+    own-sum {r} k i t =
+        ⊎-elim
+        (λ (s : keptOf f .any ≡ true).
+        let z = kept-on x (first .here) k i s in
+        let v : isChosen choice p (aloneOn choice p d) ≡ true = rw (← z) (kept-chosen x (first .here) k i s) in
+        let m : b < blocksOf p = rw z (on-within choice p o k i) in
+        λ e l h.
+        let q : needIn choice p (keptOf g) e ≡ 0 =
+        ⊎-elim
+        (λ (n : keptOf g .any ≡ true). absurd (omega (arith, z, kept-on y (second .here) k i n, second .behind)))
+        (λ (n : keptOf g .any ≡ false). rw n)
+        (bool-cases (keptOf g .any)) in
+        (omega (arith, own-need choice p o k i v e l h, ap (λ (j : ℕ). needOf choice p j e) z, kept-some x m (covers-period p d b (first .here m)) e), own-rounded choice p o k i v e l h))
+        (λ (s : keptOf f .any ≡ false).
+        let n : keptOf g .any ≡ true = rw s at t in
+        let z = kept-on y (second .here) k i n in
+        let v : isChosen choice p (aloneOn choice p d) ≡ true = rw (← z) (kept-chosen y (second .here) k i n) in
+        let m : c < blocksOf p = rw z (on-within choice p o k i) in
+        λ e l h.
+        let q : needIn choice p (keptOf f) e ≡ 0 = rw s in
+        (omega (arith, own-need choice p o k i v e l h, ap (λ (j : ℕ). needOf choice p j e) z, kept-some y m (covers-period p d c (second .here m)) e), own-rounded choice p o k i v e l h))
+        (bool-cases (keptOf f .any))
+
+    -- either way it is known how far
+    pub known-on-day : {t v : ℕ} {i j : Place} {r : Round} → t ≡ cond ((keptOf f .any || keptOf g .any) && ltb 0 (r .interval)) (r .until) u → v ≡ cond (isStill (keptOf f) && isStill (keptOf g)) t d → Stands choice p d (keptOf f) i → Stands choice p d (keptOf g) j → Rounded choice p d r →
+        Known choice p d (record { until = t; same = v; rounds = r; first = keptOf f; second = keptOf g; in_first = i; in_second = j })
+    known-on-day {t} {v} {i} {j} {r = a} far q m n k =
+        let z : (d ≤ t) × ((e : ℕ) → d ≤ e → e ≤ t → (dueOn choice p e ≡ needIn choice p (keptOf f) e + needIn choice p (keptOf g) e) × Rounded choice p e a) =
+        ⊎-elim
+        (λ (s : ((keptOf f .any || keptOf g .any) && ltb 0 (a .interval)) ≡ true).
+        let y = and-both (keptOf f .any || keptOf g .any) (ltb 0 (a .interval)) s in
+        let some = ltb-true 0 (a .interval) (y .1) in
+        let w : t ≡ a .until = rw s at far in
+        rw w (k .reach some .reached, own-sum k some (y .0)))
+        (λ (s : ((keptOf f .any || keptOf g .any) && ltb 0 (a .interval)) ≡ false).
+        let e : t ≡ u = rw s at far in
+        rw e (r, λ e l h. (sum-is e l h, rounded-later choice p o k w l h)))
+        (bool-cases ((keptOf f .any || keptOf g .any) && ltb 0 (a .interval))) in
         record {
-          reached = r;
+          reached = z .0;
           still =
               λ l.
               and-both _ _
               (⊎-elim
-              (λ t. t)
-              (λ (t : (isStill (keptOf f) && isStill (keptOf g)) ≡ false). absurd (let z = rw t at q in omega arith))
+              (λ s. s)
+              (λ (s : (isStill (keptOf f) && isStill (keptOf g)) ≡ false). absurd (let y = rw s at q in omega arith))
               (bool-cases (isStill (keptOf f) && isStill (keptOf g))));
           first = m;
           second = n;
-          sum = sum-is;
-          rounded = λ e l h. rounded-later choice p o k w l h;
-          whose = λ z. (whose o x (first .here) k z, whose o y (second .here) k z);
+          sum = λ e l h. z .1 e l h .0;
+          rounded = λ e l h. z .1 e l h .1;
+          whose = λ s. (whose x (first .here) k s, whose y (second .here) k s);
         }
 
 -- a period that the search found is as the walk counts on

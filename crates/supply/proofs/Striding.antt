@@ -20,7 +20,7 @@ use Rattle.plan.specs.Periods.{blocksOf, blockAt}
 use Rattle.supply.specs.Covered.{summed}
 use Rattle.supply.specs.Steps.{isAlone, isInside, iteratedOn, isTaken, blockFrom, daysFrom}
 use Rattle.supply.specs.code.Standing.{Reach, Rounded, aloneOn}
-use Rattle.supply.specs.code.Walking.{Going, Seen, Most, roomOf, TakesRounds, TakesDay, Takes, Stays}
+use Rattle.supply.specs.code.Walking.{Able, Seen, Most, roomOf, TakesRounds, TakesDay, Takes, Stays}
 use Rattle.supply.specs.declared.rounds.Round.{Round}
 use Rattle.supply.specs.declared.taking.Stride.{Stride}
 use Rattle.supply.specs.declared.walk.Walk.{Walk}
@@ -70,7 +70,7 @@ module _ (k r room rest : ℕ) where
       (λ (l : rest / r < room / k). most-rest j (omega arith) (omega (arith, fewer {m = n} {n = room / k} k (omega arith), div-mul-le-self room k)))
       (le-or-lt (room / k) (rest / r))
 
-module _ (choice : ℕ) (p cs : List ℕ) (w : Walk) (g : Going choice p cs w) (s : Sight) (reached : w .day ≤ s .until) where
+module _ (choice : ℕ) (p : List ℕ) (w : Walk) (g : Able choice p w) (s : Sight) (reached : w .day ≤ s .until) where
   -- the rounds of the day
   abbrev round : Round
   round = w .today .rounds
@@ -88,13 +88,13 @@ module _ (choice : ℕ) (p cs : List ℕ) (w : Walk) (g : Going choice p cs w) (
       rw (y .stride-is)
       (record {
         some = mul-pos {m = n} {n = round .interval} (y .some) (y .iterated);
-        within = omega (arith, y .most .fits, g .within);
+        within = omega (arith, y .most .fits, g .looks .within);
         still = λ e l. known-rounds (g .known) n (y .iterated) l;
         one = λ e. absurd (true-not-false refl e);
       }))
       (λ (t : TakesDay w s x).
       rw (t .stride-is)
-      (record { some = omega arith; within = omega (arith, g .within); still = λ e l. known-stays (g .known) (ltb-true _ _ e) l; one = λ e. refl }))
+      (record { some = omega arith; within = omega (arith, g .looks .within); still = λ e l. known-stays (g .known) (ltb-true _ _ e) l; one = λ e. refl }))
 
   module _ (ps : List Pause) (seen : Seen ps (w .day) s) where
     -- the period of the rounds
@@ -115,7 +115,7 @@ module _ (choice : ℕ) (p cs : List ℕ) (w : Walk) (g : Going choice p cs w) (
     unfolding iteratedOn
     block-paused t =
         let e : iteratedOn choice p ps (w .day) ≡ blocksOf p = first-none _ (blocksOf p) (λ a l. rw (here, t) (and-false (ltb 0 (intervalOf (blockAt p a))))) in
-        block-is choice p ps (w .stop) (w .day) (w .rest) ∙ rw (e, g .orderly .ends) (mul-zero _)
+        block-is choice p ps (w .stop) (w .day) (w .rest) ∙ rw (e, g .looks .orderly .ends) (mul-zero _)
 
     module _ (free : s .paused ≡ false) where
       on : iteratedOn choice p ps (w .day) ≡ b
@@ -152,21 +152,21 @@ module _ (choice : ℕ) (p cs : List ℕ) (w : Walk) (g : Going choice p cs w) (
             rw (e, alone .next) (and-false (not (isPaused ps (round .until + 1)))))
             (λ (h : s .until < round .until).
             let e : w .day + roomOf w s ≡ s .until + 1 = omega arith in
-            rw (e, seen .ends free (omega (arith, g .dated))))
+            rw (e, seen .ends free (omega (arith, g .looks .dated))))
             (le-or-lt (round .until) (s .until))
 
         -- what m rounds need
         rounds-need : (m : ℕ) → m * round .interval ≤ room → summed (needOn choice p ps) (w .day) (m * round .interval) ≡ m * round .need
         rounds-need m l =
-            let a = on-within choice p (g .orderly) rounded i in
-            let q = block-need choice p b some (g .orderly .rounds b a (alone-period choice p b (w .day) (alone .all (w .day) (omega arith) (alone .reached))) some) ps (g .orderly .few) a (w .day) m in
+            let a = on-within choice p (g .looks .orderly) rounded i in
+            let q = block-need choice p b some (g .looks .orderly .rounds b a (alone-period choice p b (w .day) (alone .all (w .day) (omega arith) (alone .reached))) some) ps (g .looks .orderly .few) a (w .day) m in
             rw (rounded .need-is i) (rw (← rounded .interval-is) at q (λ j h. inside j (omega arith)))
 
         taken-yes : (m : ℕ) → m * round .interval ≤ room → m * round .need ≤ w .rest → taken (m * round .interval) ≡ true
         unfolding isTaken
         taken-yes m l h =
             rw (
-              le-leb (w .day + m * round .interval) (w .stop + 1) (omega (arith, g .within)),
+              le-leb (w .day + m * round .interval) (w .stop + 1) (omega (arith, g .looks .within)),
               all-every (λ j. isInside choice p ps b (w .day + j)) (m * round .interval) (λ j z. inside j (omega arith)),
               rounds-need m l,
               le-leb (m * round .need) (w .rest) h,
@@ -258,7 +258,7 @@ module _ (choice : ℕ) (p cs : List ℕ) (w : Walk) (g : Going choice p cs w) (
         rw (y .stride-is) (days-block choice p ps (w .stop) (w .day) (w .rest) (rw e z) ∙ e))
         (λ (y : TakesDay w s x).
         let l : needOn choice p ps (w .day) ≤ w .rest = omega (arith, need-one, one-need, ap (λ (x : Stride). x .need) (y .stride-is)) in
-        rw (y .stride-is) (days-day choice p ps (w .stop) (w .day) (w .rest) (block-day y) ∙ rw (le-leb (w .day) (w .stop) (g .within), le-leb (needOn choice p ps (w .day)) (w .rest) l)))
+        rw (y .stride-is) (days-day choice p ps (w .stop) (w .day) (w .rest) (block-day y) ∙ rw (le-leb (w .day) (w .stop) (g .looks .within), le-leb (needOn choice p ps (w .day)) (w .rest) l)))
         t
 
     -- there is no step where it has not

@@ -17,8 +17,9 @@ use Rattle.refusal.specs.declared.Refusal.{Refusal}
 use Rattle.supply.specs.Covered.{summed}
 use Rattle.supply.specs.Steps.{State, daysFrom, after, stepsOf, lastingBy}
 use Rattle.supply.specs.Supply.{lastingOf}
+use Rattle.supply.specs.code.Choosing.{Marks}
 use Rattle.supply.specs.code.Asking.{answeredBy, Begun}
-use Rattle.supply.specs.code.Walking.{Going, Ready, Seen, Advanced, stateOf, outcomeOf, left, Onward, Went, lastingAt, Ended, endedOf}
+use Rattle.supply.specs.code.Walking.{Looking, Going, Able, Stood, Ready, Seen, Advanced, stateOf, outcomeOf, left, Onward, Went, lastingAt, Ended, endedOf}
 use Rattle.supply.specs.declared.Lasting.{Lasting}
 use Rattle.supply.specs.declared.Supply.the-variants.{Lasts, Refused}
 use Rattle.supply.specs.declared.ask.Asked.{Asked}
@@ -37,23 +38,34 @@ seen-from ps d l e =
       ends = λ t h. sight-ends ps d t h;
     })
 
--- it is so on a later day, as far as it goes
-pub seen-later : {ps : List Pause} {d e : ℕ} {s : Sight} → Seen ps d s → d ≤ e → e ≤ s .until → Seen ps e s
-seen-later k l h = record { reached = h; steady = λ f a b. k .steady f (omega arith) b; ends = k .ends }
+-- the walk knows where its day stands
+pub able : {choice : ℕ} {p : List ℕ} {w r : Walk} → Going choice p w → Stood choice p w r → Able choice p r
+able g k =
+    let l = g .looks in
+    record {
+      looks =
+          record {
+            orderly = l .orderly;
+            on = k .going-is ∙ l .on;
+            counted = omega (arith, k .start-is, k .count-is, k .day-is, l .counted);
+            within = omega (arith, k .day-is, k .stop-is, l .within);
+            dated = omega (arith, k .stop-is, l .dated);
+          };
+      known = rw (k .day-is) (k .known);
+    }
 
 -- ---- one step
-module _ (choice : ℕ) (p cs : List ℕ) (s : Sight) (w r : Walk) (g : Going choice p cs w) where
+module _ (choice : ℕ) (p : List ℕ) (s : Sight) (w r : Walk) (marks : Marks choice p (w .chosen)) (g : Looking choice p w) where
   there : w .start + (w .day - w .start) ≡ w .day
   there = omega (arith, g .counted)
 
   -- there is none: the walk is over
   pub went-over : ((ps : List Pause) → Seen ps (w .day) s → daysFrom choice p ps (w .stop) (w .day) (w .rest) ≡ 0) →
-      r ≡ record { refused = w .refused; refusal = w .refusal; going = false; start = w .start; stop = w .stop; day = w .day; count = w .count; rest = w .rest; today = w .today } → Went choice p cs s w r
+      r ≡ record { refused = w .refused; refusal = w .refusal; going = false; chosen = w .chosen; start = w .start; stop = w .stop; day = w .day; count = w .count; rest = w .rest; today = w .today } → Went choice p s w r
   went-over none same =
       rw same
       (record {
         less = rw (g .on) (omega arith);
-        later = omega arith;
         at = λ e. absurd (true-not-false e refl);
         onward =
             λ ps seen.
@@ -116,49 +128,49 @@ module _ (choice : ℕ) (p cs : List ℕ) (s : Sight) (w r : Walk) (g : Going ch
             over = λ e. rw (ended e);
           }
 
-    pub went-step : ((ps : List Pause) → Seen ps (w .day) s → (daysFrom choice p ps (w .stop) (w .day) (w .rest) ≡ x .days) × (x .need ≡ summed (needOn choice p ps) (w .day) (x .days))) → Went choice p cs s w r
+    pub went-step : ((ps : List Pause) → Seen ps (w .day) s → (daysFrom choice p ps (w .stop) (w .day) (w .rest) ≡ x .days) × (x .need ≡ summed (needOn choice p ps) (w .day) (x .days))) → Went choice p s w r
     went-step of =
         record {
           less = less;
-          later = omega (arith, a .day-is);
           at =
               λ e.
               let l = goes e in
               record {
-                orderly = g .orderly;
-                classed = g .classed;
-                on = e;
-                counted = omega (arith, a .day-is, a .start-is, a .count-is, g .counted);
-                within = omega (arith, a .day-is, a .stop-is);
-                dated = omega (arith, a .stop-is, g .dated);
-                known = rw (a .day-is) (a .goes l .1);
+                looks =
+                    record {
+                      orderly = g .orderly;
+                      on = e;
+                      counted = omega (arith, a .day-is, a .start-is, a .count-is, g .counted);
+                      within = omega (arith, a .day-is, a .stop-is);
+                      dated = omega (arith, a .stop-is, g .dated);
+                    };
+                marks = rw (a .chosen-is) marks;
+                known = λ h m. rw (a .day-is) (a .goes l .1 (rw (a .day-is) at m));
               };
           onward = λ ps seen. let y = of ps seen in onward ps (y .0) (y .1);
         }
 
--- steps one after the other
-pub went-more : {choice : ℕ} {p cs : List ℕ} {s : Sight} {w v r : Walk} → Went choice p cs s w v → v .day ≤ s .until → Went choice p cs s v r → Went choice p cs s w r
-went-more a l b =
+-- what a walk goes on to is the same once it knows where its day stands
+pub went-from : {choice : ℕ} {p : List ℕ} {s : Sight} {w v r : Walk} → Stood choice p w v → Went choice p s v r → Went choice p s w r
+went-from k a =
     record {
-      less = omega (arith, a .less, b .less);
-      later = omega (arith, a .later, b .later);
-      at = b .at;
+      less = rw (← k .stop-is, ← k .day-is, ← k .going-is) (a .less);
+      at = a .at;
       onward =
           λ ps seen.
-          let x = a .onward ps seen in
-          let y = b .onward ps (seen-later seen (a .later) l) in
+          let x = a .onward ps (rw (k .day-is) seen) in
           record {
-            refused-is = y .refused-is ∙ x .refused-is;
-            refusal-is = y .refusal-is ∙ x .refusal-is;
-            start-is = y .start-is ∙ x .start-is;
-            stop-is = y .stop-is ∙ x .stop-is;
-            begun = y .begun;
-            outcome-is = y .outcome-is ∙ x .outcome-is;
-            over = y .over;
+            refused-is = x .refused-is ∙ k .refused-is;
+            refusal-is = x .refusal-is ∙ k .refusal-is;
+            start-is = x .start-is ∙ k .start-is;
+            stop-is = x .stop-is ∙ k .stop-is;
+            begun = x .begun;
+            outcome-is = x .outcome-is ∙ rw (k .start-is, k .stop-is, k .day-is, k .rest-is, k .count-is);
+            over = x .over;
           };
     }
 
-module _ (choice : ℕ) (p cs : List ℕ) (ps : List Pause) where
+module _ (choice : ℕ) (p : List ℕ) (ps : List Pause) where
   -- ---- what holds of the walk w at each turn of the loop, where it began as w₀
   pub record Inv (w₀ w : Walk) : Type 0 where
     pub refused-is : w .refused ≡ w₀ .refused
@@ -167,7 +179,7 @@ module _ (choice : ℕ) (p cs : List ℕ) (ps : List Pause) where
     pub stop-is : w .stop ≡ w₀ .stop
     pub over : w₀ .refused ≡ true → w .going ≡ false
     pub begun : w₀ .refused ≡ false → w .start ≤ w .day
-    pub at : w .going ≡ true → Going choice p cs w
+    pub at : w .going ≡ true → Going choice p w
     pub outcome-is : w₀ .refused ≡ false → outcomeOf choice p ps w ≡ stepsOf choice p ps (w₀ .start) (w₀ .stop) (w₀ .rest)
     pub done : w₀ .refused ≡ false → w .going ≡ false → outcomeOf choice p ps w ≡ stateOf w
 
@@ -176,7 +188,7 @@ module _ (choice : ℕ) (p cs : List ℕ) (ps : List Pause) where
     unrefused : {b : Bool} → (w₀ .refused ≡ true → b ≡ false) → b ≡ true → w₀ .refused ≡ false
     unrefused o g = ⊎-elim (λ (e : w₀ .refused ≡ true). absurd (true-not-false g (o e))) (λ e. e) (bool-cases (w₀ .refused))
 
-    pub begins : Ready choice p cs w₀ → Inv w₀ w₀
+    pub begins : Ready choice p w₀ → Inv w₀ w₀
     begins r =
         record {
           refused-is = refl;
@@ -184,13 +196,13 @@ module _ (choice : ℕ) (p cs : List ℕ) (ps : List Pause) where
           start-is = refl;
           stop-is = refl;
           over = r .over;
-          begun = λ n. let z = r .at n .counted in omega arith;
+          begun = λ n. let z = r .at n .looks .counted in omega arith;
           at = λ g. r .at (unrefused (r .over) g);
           outcome-is = λ n. let f = r .first n in let z : w₀ .day - w₀ .start ≡ 0 = omega (arith, f .0) in rw (z, f .0, f .1);
           done = λ n g. absurd (true-not-false (r .goes n) g);
         }
 
-    pub turns : {w r : Walk} {s : Sight} → Inv w₀ w → w .going ≡ true → Seen ps (w .day) s → Went choice p cs s w r → Inv w₀ r
+    pub turns : {w r : Walk} {s : Sight} → Inv w₀ w → w .going ≡ true → Seen ps (w .day) s → Went choice p s w r → Inv w₀ r
     turns i going seen t =
         let o = t .onward ps seen in
         let fine = unrefused (i .over) going in

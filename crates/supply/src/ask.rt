@@ -16,13 +16,13 @@ const PACK_LIMIT: u64 = 1000000000000;
 // Refused, whatever the choice; or a start day and a pack, with the classes of the plan's periods. A set of dates does not ask for every
 // choice: for 2 only where `upper` says so, for 3 and 4 only where `needed` does.
 pub(crate) struct Asked {
+    pub classes: [u8; 32],
     pub refused: bool,
     pub upper: bool,
     pub needed: bool,
     pub refusal: Refusal,
     pub start: u32,
     pub pack: u64,
-    pub classes: [u8; 32],
 }
 
 // The first of 20 to 22, 0 where there is none. `out` says that 21 is due, in its turn.

@@ -1,10 +1,7 @@
 // Where the walk by a choice begins: the choice's own refusals, 23 and 24, and else the first day.
 use crate::ask::Asked;
-use crate::place::NO_PERIOD;
-use crate::place::NO_PLACE;
-use crate::rounds::NO_ROUND;
-use crate::today::Today;
-use crate::today::on_day;
+use crate::bits::chosen_by;
+use crate::today::NO_DAY;
 use crate::walk::Walk;
 use need::Stop;
 use need::is_choice;
@@ -49,20 +46,13 @@ fn refused(refusal: Refusal) -> Walk
         refused: true,
         refusal,
         going: false,
+        chosen: 0,
         start: 0,
         stop: 0,
         day: 0,
         count: 0,
         rest: 0,
-        today: Today {
-            first: NO_PERIOD,
-            in_first: NO_PLACE,
-            until: 0,
-            same: 0,
-            rounds: NO_ROUND,
-            second: NO_PERIOD,
-            in_second: NO_PLACE,
-        },
+        today: NO_DAY,
     }
 }
 
@@ -87,11 +77,12 @@ pub(crate) fn begin(plan: &[u8], asked: Asked, choice: u32) -> Walk
         refused: false,
         refusal: Refusal::alone(0),
         going: true,
+        chosen: chosen_by(choice, classes, (plan.len() / 512) as u8),
         start: asked.start,
         stop: stop.day,
         day: asked.start,
         count: 0,
         rest: asked.pack,
-        today: on_day(plan, choice, classes, asked.start),
+        today: NO_DAY,
     }
 }

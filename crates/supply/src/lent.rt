@@ -11,7 +11,7 @@ use crate::walk::Walk;
 use crate::walk::day_of;
 use crate::walk::ended;
 use crate::walk::is_going;
-use crate::walk::stretch;
+use crate::walk::step;
 use pause::Pause;
 use pause::are_out;
 use pause::sight_from;
@@ -21,14 +21,15 @@ ghost use Rattle.supply.specs.Supply.{supplyOf};
 ghost use Rattle.supply.specs.code.Asking.{Judged, answeredBy};
 ghost use Rattle.supply.specs.code.Walking.{Ready, Ended};
 
-// The walk, stretch by stretch: pauses split it.
-fn walked(plan: &[u8], choice: u32, asked: Asked, pauses: &[Pause], begun: Walk) -> Walk
-    requires { ⌜ Ready choice (now plan) (asked .classes) begun ⌝ }
+// The walk, step by step. Each day that is looked at is asked of the list of pauses, whether it is paused, and how far that stays so: this
+// is document 01's thin test of a day, and pauses split the walk by it.
+fn walked(plan: &[u8], choice: u32, pauses: &[Pause], begun: Walk) -> Walk
+    requires { ⌜ Ready choice (now plan) begun ⌝ }
     ensures { λ r. ⌜ Ended choice (now (plan .entry)) (now (pauses .entry)) begun r ⌝ }
 {
     let mut w = begun;
     while is_going(w) {
-        w = stretch(plan, choice, asked, w, sight_from(pauses, day_of(w)));
+        w = step(plan, choice, w, sight_from(pauses, day_of(w)));
     }
     w
 }
@@ -38,7 +39,7 @@ pub(crate) fn supply_by(plan: &[u8], asked: Asked, choice: u32, pauses: &[Pause]
     requires { ⌜ Judged (now plan) asked ⌝ }
     ensures { λ r. ⌜ r ≡ answeredBy (now (plan .entry)) asked choice (now (pauses .entry)) ⌝ }
 {
-    ended(walked(plan, choice, asked, pauses, begin(plan, asked, choice)))
+    ended(walked(plan, choice, pauses, begin(plan, asked, choice)))
 }
 
 // How far a pack lasts, with the pauses as a lent list of records.

@@ -2,18 +2,19 @@
 // from where the day ahead ended, so that a walk reads each dose once a round.
 use crate::position::due_at;
 use crate::position::first_from;
-use crate::position::lowest_at;
 use doses::position_of;
-use need::is_stopping;
 use plan::block_of;
 use plan::doses_of;
 use plan::interval_of;
 ghost use mathlib.Core.Path.{_≡_};
 ghost use mathlib.Core.Bool.{true};
-ghost use Prim.Native.Nat.{_+_, _≤_, _<_};
+ghost use Prim.Native.Nat.{ℕ, _+_, _≤_, _<_};
 ghost use Rattle.day.specs.Days.{lastNumber};
-ghost use Rattle.supply.specs.code.Standing.{positionBehind, doseFrom, isStill, Placed, Moved, Stands, IsAt, InPeriod, keptOf};
-ghost use Rattle.verdict.specs.code.Ready.{Classed};
+ghost use Rattle.doses.specs.Doses.{positionOf};
+ghost use Rattle.plan.specs.Fields.{intervalOf, headerOf};
+ghost use Rattle.plan.specs.Periods.{blocksOf, blockAt, dosesOf};
+ghost use Rattle.supply.specs.code.Choosing.{Flag};
+ghost use Rattle.supply.specs.code.Standing.{Sorted, Small, From, lowestAt, positionBehind, doseFrom, isStill, Placed, Moved, Stands, IsAt, InPeriod, keptOf};
 
 // The period at block b, in rounds of `interval` days, has `doses` doses. Or there is none.
 pub(crate) struct Period {
@@ -53,15 +54,14 @@ pub(crate) struct Candidate {
     pub interval: u32,
 }
 
-// The period at block b, if there is such a block. `classes` has the class of the period at each block.
-pub(crate) fn period_at(plan: &[u8], choice: u32, classes: [u8; 32], b: u8) -> Candidate
-    requires { ⌜ Classed (now plan) classes ⌝ }
-    ensures { λ r. ⌜ IsAt choice (now (plan .entry)) b r ⌝ }
+// The period at block b, if there is such a block; `chosen` says whether it has doses of the choice.
+pub(crate) fn period_at(plan: &[u8], b: u8, chosen: bool) -> Candidate
+    ensures { λ r. ⌜ ((choice : ℕ) → Flag choice (now (plan .entry)) (blocksOf (now (plan .entry))) b chosen → IsAt choice (now (plan .entry)) b r) ⌝ }
 {
     if (b as usize) < plan.len() / 512 {
         return Candidate {
             any: true,
-            chosen: is_stopping(choice, classes[b as usize]),
+            chosen,
             b,
             doses: doses_of(plan, b),
             interval: interval_of(block_of(plan, b as u16)) as u32,
@@ -95,6 +95,43 @@ pub(crate) fn is_still(t: Period) -> bool
     !t.any | (t.interval == 1)
 }
 
+// A day's position in the period. In rounds of one day it is the first, and nothing is divided.
+fn position_in(plan: &[u8], day: u32, t: Period) -> u32
+    requires { ⌜ (t .interval ≡ intervalOf (blockAt (now plan) (t .b))) × (day ≤ lastNumber) ⌝ }
+    ensures { λ r. ⌜ r ≡ positionOf (headerOf (blockAt (now (plan .entry)) (t .b))) day ⌝ }
+{
+    if t.interval == 1 {
+        return 1;
+    }
+    position_of(block_of(plan, t.b as u16), day) as u32
+}
+
+// The dose at which those of a position begin. Those of the first begin with the period's first dose, since day number 0 counts there; the
+// others have to be looked for.
+fn dose_from(plan: &[u8], t: Period, position: u32) -> u16
+    requires { ⌜ Sorted (now plan) (t .b) × (t .doses ≡ dosesOf (now plan) (t .b)) ⌝ }
+    ensures { λ j. ⌜ From (now (plan .entry)) (t .b) (t .doses) (lowestAt position) j ⌝ }
+{
+    if position == 1 {
+        return 0;
+    }
+    first_from(plan, t.b, t.doses, position as u64)
+}
+
+// The place at a position of the period, whose doses begin at dose `from`.
+fn place_at(plan: &[u8], choice: u32, t: Period, position: u32, from: u16) -> Place
+    requires { ⌜ Sorted (now plan) (t .b) × Small choice (now plan) (t .b) × (t .doses ≡ dosesOf (now plan) (t .b)) × (t .interval ≡ intervalOf (blockAt (now plan) (t .b))) ⌝ }
+    requires { ⌜ (0 < position) × From (now plan) (t .b) (t .doses) (lowestAt position) from ⌝ }
+    ensures { λ r. ⌜ Placed choice (now (plan .entry)) t r × (r .position ≡ position) ⌝ }
+{
+    let due = due_at(plan, choice, t.b, t.doses, position as u64, from);
+    Place {
+        due: due.need,
+        position,
+        behind: due.behind as u32,
+    }
+}
+
 // The day's place in the period.
 pub(crate) fn place_on(plan: &[u8], choice: u32, day: u32, t: Period) -> Place
     requires { ⌜ (t .any ≡ true → InPeriod choice (now plan) day t) × (day ≤ lastNumber) ⌝ }
@@ -103,14 +140,9 @@ pub(crate) fn place_on(plan: &[u8], choice: u32, day: u32, t: Period) -> Place
     if !t.any {
         return NO_PLACE;
     }
-    let position = position_of(block_of(plan, t.b as u16), day);
-    let from = first_from(plan, t.b, t.doses, lowest_at(position));
-    let due = due_at(plan, choice, t.b, t.doses, position, from);
-    Place {
-        due: due.need,
-        position: position as u32,
-        behind: due.behind as u32,
-    }
+    let position = position_in(plan, day, t);
+    let from = dose_from(plan, t, position);
+    place_at(plan, choice, t, position, from)
 }
 
 // What the day needs in two periods, by its places there.
@@ -150,10 +182,5 @@ pub(crate) fn next_place(plan: &[u8], choice: u32, t: Period, s: Place) -> Place
     }
     let position = position_behind(t.interval, s.position);
     let from = doses_from(position, s.behind);
-    let due = due_at(plan, choice, t.b, t.doses, position as u64, from);
-    Place {
-        due: due.need,
-        position,
-        behind: due.behind as u32,
-    }
+    place_at(plan, choice, t, position, from)
 }

@@ -33,13 +33,6 @@ pub(crate) fn first_from(plan: &[u8], b: u8, n: u16, x: u64) -> u16
     lo
 }
 
-// The lowest day number that counts at a position: day number 0 counts at position 1.
-pub(crate) fn lowest_at(position: u64) -> u64
-    ensures { λ r. ⌜ r ≡ lowestAt position ⌝ }
-{
-    if position == 1 { 0 } else { position }
-}
-
 // What a position needs, and the dose behind its doses.
 pub(crate) struct Due {
     pub need: u64,

@@ -1,25 +1,16 @@
 // Whole rounds: of which period they may be taken on a day, pauses apart, what a round needs, and up to which day the days are that
 // period's alone.
 use crate::place::Candidate;
-use crate::until::NEVER;
 use crate::until::least;
 use need::amount;
-use need::is_stopping;
 use plan::block_of;
 use plan::dose_in;
-use plan::first_of;
-use plan::is_period;
 use plan::last_of;
 ghost use mathlib.Core.Path.{_≡_};
-ghost use mathlib.Core.Bool.{true, not, cond, _&&_};
-ghost use Prim.Native.Nat.{_-_, _<_};
-ghost use lib.Dec.{eqb, ltb};
-ghost use Rattle.day.specs.Days.{openMark};
-ghost use Rattle.plan.specs.Periods.{blocksOf, isPeriod, dosesOf};
-ghost use Rattle.need.specs.Need.{choiceOf, dueOn};
-ghost use Rattle.supply.specs.Steps.{isAlone};
-ghost use Rattle.supply.specs.code.Standing.{Small, Orderly, InBoth, Reach, Rounded, roundNeed};
-ghost use Rattle.verdict.specs.code.Ready.{Classed};
+ghost use mathlib.Core.Bool.{true, false, _&&_};
+ghost use lib.Dec.{ltb};
+ghost use Rattle.plan.specs.Periods.{dosesOf};
+ghost use Rattle.supply.specs.code.Standing.{Small, Counts, roundNeed, roundsOf, roundsOn};
 
 // Rounds of `interval` days, each of which needs `need`. Up to day `until` the days are in their period, and in no other with doses of the
 // choice. Where `interval` is 0 there are none.
@@ -48,49 +39,9 @@ fn round_need(plan: &[u8], choice: u32, b: u8, n: u16) -> u64
     need
 }
 
-// Is the period at block c, if this is its class, another than the one at block b, with doses of the choice?
-fn is_other(plan: &[u8], choice: u32, class: u8, b: u8, c: u8) -> bool
-    ensures { λ r. ⌜ r ≡ (not (eqb c b) && (isPeriod (now (plan .entry)) c && choiceOf choice .stops class)) ⌝ }
-{
-    if c == b {
-        return false;
-    }
-    if is_period(plan, c) {
-        return is_stopping(choice, class);
-    }
-    false
-}
-
-// Up to which day a period that begins on `first`, and does not have this day, has none.
-fn none_until(first: u32, day: u32) -> u32
-    ensures { λ r. ⌜ r ≡ cond (ltb day first) (first - 1) openMark ⌝ }
-{
-    if day < first {
-        return first - 1;
-    }
-    NEVER
-}
-
-// Up to which day the days are in the period at block b, and in no other with doses of the choice, as this day is.
-fn alone_until(plan: &[u8], choice: u32, classes: [u8; 32], b: u8, day: u32) -> u32
-    requires { ⌜ Orderly choice (now plan) × Classed (now plan) classes ⌝ }
-    requires { ⌜ (b < blocksOf (now plan)) × (isAlone choice (now plan) b day ≡ true) ⌝ }
-    ensures { λ r. ⌜ Reach (isAlone choice (now (plan .entry)) b) day r ⌝ }
-{
-    let n = (plan.len() / 512) as u8;
-    let mut until = last_of(block_of(plan, b as u16));
-    for c in 0..n {
-        if !is_other(plan, choice, classes[c as usize], b, c) {
-            continue;
-        }
-        until = least(until, none_until(first_of(block_of(plan, c as u16)), day));
-    }
-    until
-}
-
 // What a period needs in a round. In rounds of one day that is what the day needs, which is known.
 fn need_in_round(plan: &[u8], choice: u32, t: Candidate, due: u64) -> u64
-    requires { ⌜ Small choice (now plan) (t .b) × (t .doses ≡ dosesOf (now plan) (t .b)) × (t .interval ≡ 1 → due ≡ roundNeed choice (now plan) (t .b)) ⌝ }
+    requires { ⌜ Counts choice (now plan) t due ⌝ }
     ensures { λ r. ⌜ r ≡ roundNeed choice (now (plan .entry)) (t .b) ⌝ }
 {
     if t.interval == 1 {
@@ -99,17 +50,15 @@ fn need_in_round(plan: &[u8], choice: u32, t: Candidate, due: u64) -> u64
     round_need(plan, choice, t.b, t.doses)
 }
 
-// The rounds of a period that has the day, which needs `due`, and is alone in that.
-fn rounds_of(plan: &[u8], choice: u32, classes: [u8; 32], day: u32, t: Candidate, due: u64) -> Round
-    requires { ⌜ Orderly choice (now plan) × Classed (now plan) classes ⌝ }
-    requires { ⌜ Small choice (now plan) (t .b) × (t .doses ≡ dosesOf (now plan) (t .b)) × (t .interval ≡ 1 → due ≡ roundNeed choice (now plan) (t .b)) ⌝ }
-    requires { ⌜ (t .b < blocksOf (now plan)) × (isAlone choice (now plan) (t .b) day ≡ true) ⌝ }
-    ensures { λ r. ⌜ (r .interval ≡ t .interval) × (r .need ≡ roundNeed choice (now (plan .entry)) (t .b)) × Reach (isAlone choice (now (plan .entry)) (t .b)) day (r .until) ⌝ }
+// The rounds of a period: up to its last day, or to the one ahead of the next period with doses of the choice, which is day `clear`.
+fn rounds_of(plan: &[u8], choice: u32, clear: u32, t: Candidate, due: u64) -> Round
+    requires { ⌜ Counts choice (now plan) t due ⌝ }
+    ensures { λ r. ⌜ r ≡ roundsOf choice (now (plan .entry)) clear t ⌝ }
 {
     Round {
         need: need_in_round(plan, choice, t, due),
         interval: t.interval,
-        until: alone_until(plan, choice, classes, t.b, day),
+        until: least(last_of(block_of(plan, t.b as u16)), clear),
     }
 }
 
@@ -121,25 +70,23 @@ fn is_iterated(t: Candidate) -> bool
 }
 
 // The rounds that may be taken on a day that is in the periods `one` and `other` and needs `due`: those of an iterated one, where the other
-// has no doses of the choice.
+// has no doses of the choice. No other with such doses begins up to day `clear`.
 pub(crate) fn rounds_on(
     plan: &[u8],
     choice: u32,
-    classes: [u8; 32],
-    day: u32,
+    clear: u32,
     one: Candidate,
     other: Candidate,
     due: u64,
 ) -> Round
-    requires { ⌜ Orderly choice (now plan) × Classed (now plan) classes ⌝ }
-    requires { ⌜ InBoth choice (now plan) day one other × (due ≡ dueOn choice (now plan) day) ⌝ }
-    ensures { λ r. ⌜ Rounded choice (now (plan .entry)) day r ⌝ }
+    requires { ⌜ (one .any ≡ true → other .chosen ≡ false → Counts choice (now plan) one due) × (other .any ≡ true → one .chosen ≡ false → Counts choice (now plan) other due) ⌝ }
+    ensures { λ r. ⌜ r ≡ roundsOn choice (now (plan .entry)) clear one other ⌝ }
 {
     if is_iterated(one) & !other.chosen {
-        return rounds_of(plan, choice, classes, day, one, due);
+        return rounds_of(plan, choice, clear, one, due);
     }
     if is_iterated(other) & !one.chosen {
-        return rounds_of(plan, choice, classes, day, other, due);
+        return rounds_of(plan, choice, clear, other, due);
     }
     NO_ROUND
 }

@@ -6,7 +6,7 @@ use crate::walk::Walk;
 use pause::Sight;
 ghost use mathlib.Core.Path.{_≡_};
 ghost use mathlib.Core.Bool.{cond};
-ghost use Prim.Native.Nat.{_+_, _≤_, _<_, min};
+ghost use Prim.Native.Nat.{_+_, _/_, _≤_, _<_, min};
 ghost use Rattle.day.specs.Days.{lastNumber};
 ghost use Rattle.supply.specs.code.Walking.{Most, RoundsDue, Takes};
 
@@ -26,6 +26,17 @@ fn lesser(x: u64, y: u64) -> u64
     if x < y { x } else { y }
 }
 
+// The whole rounds in so many days. Most are of one day.
+fn whole_rounds(room: u64, interval: u64) -> u64
+    requires { ⌜ 0 < interval ⌝ }
+    ensures { λ r. ⌜ r ≡ room / interval ⌝ }
+{
+    if interval == 1 {
+        return room;
+    }
+    room / interval
+}
+
 // As many rounds of `interval` days, each of which needs `need`, as there is room for in so many days and as the rest has. Where there is
 // none, as on most single days, nothing is divided.
 fn rounds_in(interval: u64, need: u64, room: u64, rest: u64) -> u64
@@ -35,7 +46,7 @@ fn rounds_in(interval: u64, need: u64, room: u64, rest: u64) -> u64
     if (room < interval) | (rest < need) {
         return NO_ROUNDS;
     }
-    let rounds = room / interval;
+    let rounds = whole_rounds(room, interval);
     if need == 0 {
         return rounds;
     }

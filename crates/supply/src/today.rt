@@ -1,5 +1,7 @@
 // Where a day stands in the periods that have it. By rule 16 there are two at the most; the day has a place in each that has doses of the
 // choice, which knows nothing of the other.
+use crate::place::NO_PERIOD;
+use crate::place::NO_PLACE;
 use crate::place::Period;
 use crate::place::Place;
 use crate::place::due_in;
@@ -8,19 +10,19 @@ use crate::place::kept;
 use crate::place::next_place;
 use crate::place::period_at;
 use crate::place::place_on;
+use crate::rounds::NO_ROUND;
 use crate::rounds::Round;
 use crate::rounds::rounds_on;
-use crate::until::periods_until;
-use doses::is_covering;
+use crate::survey::survey_of;
 ghost use mathlib.Core.Path.{_≡_};
-ghost use mathlib.Core.Bool.{true, cond};
+ghost use mathlib.Core.Bool.{true, cond, _&&_};
 ghost use Prim.Native.Nat.{_+_, _≤_};
+ghost use lib.Dec.{ltb};
 ghost use Rattle.day.specs.Days.{lastNumber};
-ghost use Rattle.plan.specs.Periods.{blocksOf};
-ghost use Rattle.supply.specs.code.Standing.{Orderly, Placed, Known, Behind, Next};
-ghost use Rattle.verdict.specs.code.Ready.{Classed};
+ghost use Rattle.supply.specs.code.Choosing.{Marks};
+ghost use Rattle.supply.specs.code.Standing.{Orderly, Placed, Known, Behind};
 
-// The day stands in the periods `first` and `second`, at a place in each. Up to day `until` the days are in the same periods, and up to
+// The day stands in the periods `first` and `second`, at a place in each. Up to day `until` all of this stays but the places, and up to
 // day `same` each needs what the one ahead of it needs. `rounds` are those that may be taken, pauses apart.
 pub(crate) struct Today {
     pub first: Period,
@@ -32,21 +34,16 @@ pub(crate) struct Today {
     pub in_second: Place,
 }
 
-// The first block from `lo` on whose period has the day; past all blocks where there is none.
-fn covering_from(plan: &[u8], day: u32, lo: u8) -> u8
-    requires { ⌜ (blocksOf (now plan) ≤ 32) × (lo ≤ 33) ⌝ }
-    ensures { λ b. ⌜ Next (now (plan .entry)) day lo b × (lo ≤ 32 → b ≤ 32) ⌝ }
-{
-    let n = (plan.len() / 512) as u8;
-    let mut b = lo;
-    while b < n {
-        if is_covering(plan, day, b) {
-            break;
-        }
-        b += 1;
-    }
-    b
-}
+// A day of which nothing is known.
+pub(crate) const NO_DAY: Today = Today {
+    first: NO_PERIOD,
+    in_first: NO_PLACE,
+    until: 0,
+    same: 0,
+    rounds: NO_ROUND,
+    second: NO_PERIOD,
+    in_second: NO_PLACE,
+};
 
 // Up to which day the days need the same, if the periods that they are in up to day `until` are still.
 fn steady_until(still: bool, day: u32, until: u32) -> u32
@@ -55,28 +52,38 @@ fn steady_until(still: bool, day: u32, until: u32) -> u32
     if still { until } else { day }
 }
 
-// A day's periods and places, worked out from the plan.
-pub(crate) fn on_day(plan: &[u8], choice: u32, classes: [u8; 32], day: u32) -> Today
-    requires { ⌜ Orderly choice (now plan) × Classed (now plan) classes × (day ≤ lastNumber) ⌝ }
+// Up to which day nothing need be worked out anew. The periods stay up to day `until`; where the day is in one with doses of the choice,
+// and rounds of it may be taken, others without such doses may come and go as far as those rounds go.
+fn known_until(chosen: bool, rounds: Round, until: u32) -> u32
+    ensures { λ r. ⌜ r ≡ cond (chosen && ltb 0 (rounds .interval)) (rounds .until) until ⌝ }
+{
+    if chosen & (0 < rounds.interval) {
+        return rounds.until;
+    }
+    until
+}
+
+// A day's periods and places, worked out from the plan. `chosen` has a bit for each block.
+pub(crate) fn on_day(plan: &[u8], choice: u32, chosen: u32, day: u32) -> Today
+    requires { ⌜ Orderly choice (now plan) × Marks choice (now plan) chosen × (day ≤ lastNumber) ⌝ }
     ensures { λ r. ⌜ Known choice (now (plan .entry)) day r ⌝ }
 {
-    let until = periods_until(plan, day);
-    let b = covering_from(plan, day, 0);
-    let c = covering_from(plan, day, b + 1);
-    let one = period_at(plan, choice, classes, b);
-    let other = period_at(plan, choice, classes, c);
+    let s = survey_of(plan, chosen, day);
+    let one = period_at(plan, s.first, s.one);
+    let other = period_at(plan, s.second, s.other);
     let first = kept(one);
     let second = kept(other);
-    let same = steady_until(is_still(first) & is_still(second), day, until);
     let in_first = place_on(plan, choice, day, first);
     let in_second = place_on(plan, choice, day, second);
     let due = due_in(in_first, in_second);
+    let rounds = rounds_on(plan, choice, s.clear, one, other, due);
+    let until = known_until(first.any | second.any, rounds, s.until);
     Today {
         first,
         in_first,
         until,
-        same,
-        rounds: rounds_on(plan, choice, classes, day, one, other, due),
+        same: steady_until(is_still(first) & is_still(second), day, until),
+        rounds,
         second,
         in_second,
     }

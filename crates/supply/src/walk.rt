@@ -1,7 +1,6 @@
 // The walk over the days, by steps.
 use crate::Lasting;
 use crate::Supply;
-use crate::ask::Asked;
 use crate::taking::Stride;
 use crate::taking::next_stride;
 use crate::today::Today;
@@ -13,14 +12,13 @@ use refusal::Refusal;
 ghost use mathlib.Core.Path.{_≡_};
 ghost use Prim.Native.Nat.{_-_, _≤_};
 ghost use mathlib.Core.Bool.{false, cond};
-ghost use lib.Dec.{eqb, leb};
-ghost use Rattle.day.specs.Days.{lastNumber, openMark};
-ghost use Rattle.supply.specs.code.Standing.{Orderly};
-ghost use Rattle.supply.specs.code.Walking.{Going, Stays, Renewed, Advanced, Went, reasonAt, endedOf};
-ghost use Rattle.verdict.specs.code.Ready.{Classed};
+ghost use lib.Dec.{eqb};
+ghost use Rattle.day.specs.Days.{openMark};
+ghost use Rattle.supply.specs.code.Walking.{Going, Able, Stood, Stays, Advanced, Went, reasonAt, endedOf};
 
-// The walk stands on `day`, with a rest, after `count` steps, and goes on as long as `going`; where supply is refused it never goes. It is
-// handed on by value at each step: its fields, and those of what it holds, leave no gap, so that the compiler keeps them in registers.
+// The walk stands on `day`, with a rest, after `count` steps, and goes on as long as `going`; where supply is refused it never goes.
+// `chosen` has a bit for each block whose period has doses of the choice. The walk is handed on by value at each step: its fields, and
+// those of what it holds, leave no gap, and stand in an order in which the compiler keeps them in registers.
 pub(crate) struct Walk {
     pub refused: bool,
     pub refusal: Refusal,
@@ -28,7 +26,8 @@ pub(crate) struct Walk {
     pub start: u32,
     pub stop: u32,
     pub day: u32,
-    pub count: u64,
+    pub count: u32,
+    pub chosen: u32,
     pub rest: u64,
     pub today: Today,
 }
@@ -56,19 +55,22 @@ fn reason_at(day: u32, stop: u32) -> u8
     if stop == Day::LAST.number { 3 } else { 2 }
 }
 
-// The walk, with where its day stands worked out anew.
-fn renewed(plan: &[u8], choice: u32, classes: [u8; 32], w: Walk) -> Walk
-    requires { ⌜ Orderly choice (now plan) × Classed (now plan) classes × (w .day ≤ lastNumber) ⌝ }
-    ensures { λ r. ⌜ Renewed choice (now (plan .entry)) w r ⌝ }
+// The walk, which knows where its day stands: as the step ahead left it, or worked out anew, on the first day and where periods changed.
+fn stood(plan: &[u8], choice: u32, w: Walk) -> Walk
+    requires { ⌜ Going choice (now plan) w ⌝ }
+    ensures { λ r. ⌜ Stood choice (now (plan .entry)) w r ⌝ }
 {
     let mut r = w;
-    r.today = on_day(plan, choice, classes, w.day);
+    let t = w.today;
+    if (w.count == 0) | (t.until < w.day) {
+        r.today = on_day(plan, choice, w.chosen, w.day);
+    }
     r
 }
 
 // The walk after the days of a step, which the rest has the need of.
-fn advance(plan: &[u8], choice: u32, classes: [u8; 32], w: Walk, x: Stride) -> Walk
-    requires { ⌜ Going choice (now plan) classes w ⌝ }
+fn advance(plan: &[u8], choice: u32, w: Walk, x: Stride) -> Walk
+    requires { ⌜ Able choice (now plan) w ⌝ }
     requires { ⌜ Stays choice (now plan) w x × (x .need ≤ w .rest) ⌝ }
     ensures { λ r. ⌜ Advanced choice (now (plan .entry)) w x r ⌝ }
 {
@@ -82,48 +84,26 @@ fn advance(plan: &[u8], choice: u32, classes: [u8; 32], w: Walk, x: Stride) -> W
         return r;
     }
     let t = w.today;
-    if t.until < day {
-        return renewed(plan, choice, classes, r);
-    }
-    if x.still {
+    if x.still | (t.until < day) {
         return r;
     }
     r.today = next_day(plan, choice, t);
     r
 }
 
-// The walk after its next step, or over, where the day needs more than the rest. The sight has its day.
-fn step(plan: &[u8], choice: u32, classes: [u8; 32], w: Walk, s: Sight) -> Walk
-    requires { ⌜ Going choice (now plan) classes w × (w .day ≤ s .until) ⌝ }
-    ensures { λ r. ⌜ Went choice (now (plan .entry)) classes s w r ⌝ }
+// The walk after its next step, or over, where the day needs more than the rest. The sight is what the list of pauses says of its day.
+pub(crate) fn step(plan: &[u8], choice: u32, begun: Walk, s: Sight) -> Walk
+    requires { ⌜ Going choice (now plan) begun × (begun .day ≤ s .until) ⌝ }
+    ensures { λ r. ⌜ Went choice (now (plan .entry)) s begun r ⌝ }
 {
+    let w = stood(plan, choice, begun);
     let x = next_stride(w, s);
     if w.rest < x.need {
         let mut r = w;
         r.going = false;
         return r;
     }
-    advance(plan, choice, classes, w, x)
-}
-
-// Does the sight have the day? This is the test of each day that is looked at, on plain numbers.
-fn is_in_sight(s: Sight, day: u32) -> bool
-    ensures { λ r. ⌜ r ≡ leb day (s .until) ⌝ }
-{
-    day <= s.until
-}
-
-// The walk up to where the sight ends.
-pub(crate) fn stretch(plan: &[u8], choice: u32, asked: Asked, w: Walk, s: Sight) -> Walk
-    requires { ⌜ Going choice (now plan) (asked .classes) w × (w .day ≤ s .until) ⌝ }
-    ensures { λ r. ⌜ Went choice (now (plan .entry)) (asked .classes) s w r ⌝ }
-{
-    let classes = asked.classes;
-    let mut r = w;
-    while r.going & is_in_sight(s, r.day) {
-        r = step(plan, choice, classes, r, s);
-    }
-    r
+    advance(plan, choice, w, x)
 }
 
 // The last of the days from the start on to the one ahead of `day`: the open mark where there is none.

@@ -62,7 +62,7 @@ pub record ForDates (p : List ℕ) (start pack : ℕ) (out : Bool) (a : Asked) :
 
 -- where the walk by a choice begins
 pub record Begun (p : List ℕ) (a : Asked) (choice : ℕ) (w : Walk) : Type 0 where
-  pub ready : Ready choice p (a .classes) w
+  pub ready : Ready choice p w
   pub refused-is : w .refused ≡ true → (ps : List Pause) → answeredBy p a choice ps ≡ Refused (w .refusal)
   pub lasts-is : w .refused ≡ false → (ps : List Pause) → answeredBy p a choice ps ≡ Lasts (lastingOf (needOn choice p ps) (w .start) (w .stop) (w .rest))
 

@@ -1,5 +1,5 @@
 -- What the walk counts on, and what it keeps from day to day. No answer is stated by these.
-use Prim.Native.Nat.{ℕ, _+_, _≤_, _<_}
+use Prim.Native.Nat.{ℕ, _+_, _≤_, _<_, min}
 use mathlib.Core.Path.{_≡_}
 use mathlib.Core.Bool.{Bool, true, false, cond, not, _&&_, _||_}
 use mathlib.Core.List.{List}
@@ -7,7 +7,7 @@ use lib.Dec.{eqb, ltb}
 use Rattle.below.specs.Below.{firstBelow, sumBelow}
 use Rattle.doses.specs.Doses.{covers, positionOf, applies}
 use Rattle.need.specs.Need.{chosen, dueOn}
-use Rattle.plan.specs.Fields.{intervalOf, firstOf, headerOf}
+use Rattle.plan.specs.Fields.{intervalOf, firstOf, lastOf, headerOf}
 use Rattle.plan.specs.Periods.{blocksOf, blockAt, isPeriod, dosesOf, doseIn}
 use Rattle.supply.specs.Steps.{isChosen, isAlone}
 use Rattle.supply.specs.declared.place.Candidate.{Candidate}
@@ -134,11 +134,28 @@ pub record Rounded (choice : ℕ) (p : List ℕ) (d : ℕ) (r : Round) : Type 0 
   pub need-is : 0 < r .interval → r .need ≡ roundNeed choice p (aloneOn choice p d)
   pub reach : 0 < r .interval → Reach (isAlone choice p (aloneOn choice p d)) d (r .until)
 
+-- a period's doses can be counted; in rounds of one day they come to what the day needs
+pub record Counts (choice : ℕ) (p : List ℕ) (t : Candidate) (due : ℕ) : Type 0 where
+  pub small : Small choice p (t .b)
+  pub all : t .doses ≡ dosesOf p (t .b)
+  pub day : t .interval ≡ 1 → due ≡ roundNeed choice p (t .b)
+
+-- the rounds of a period, if no other with doses of the choice begins up to day `clear`
+abbrev pub roundsOf : ℕ → List ℕ → ℕ → Candidate → Round
+roundsOf choice p clear t = record { need = roundNeed choice p (t .b); interval = t .interval; until = min (lastOf (blockAt p (t .b))) clear }
+
+-- those of an iterated one of two, where the other has no doses of the choice
+abbrev pub roundsOn : ℕ → List ℕ → ℕ → Candidate → Candidate → Round
+roundsOn choice p clear one other =
+    cond ((one .any && ltb 0 (one .interval)) && not (other .chosen)) (roundsOf choice p clear one)
+    (cond ((other .any && ltb 0 (other .interval)) && not (one .chosen)) (roundsOf choice p clear other)
+    (record { need = 0; interval = 0; until = 0 }))
+
 -- what a period needs on a day, if there is one
 abbrev pub needIn : ℕ → List ℕ → Period → ℕ → ℕ
 needIn choice p t d = cond (t .any) (needOf choice p (t .b) d) 0
 
--- t is where day d stands in its periods with doses of the choice, and up to day `until` the days are in the same periods. What a period
+-- t is where day d stands in its periods with doses of the choice, and up to day `until` they stay. What a period
 -- needs is its own: the other has no part in it
 pub record Known (choice : ℕ) (p : List ℕ) (d : ℕ) (t : Today) : Type 0 where
   pub reached : d ≤ t .until

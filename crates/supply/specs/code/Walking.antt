@@ -10,30 +10,39 @@ use Rattle.pause.specs.Pauses.{isPaused}
 use Rattle.pause.specs.declared.Pause.{Pause}
 use Rattle.pause.specs.declared.Sight.{Sight}
 use Rattle.supply.specs.Steps.{State, stepsOf, after}
+use Rattle.supply.specs.code.Choosing.{Marks}
 use Rattle.supply.specs.code.Standing.{Orderly, Known}
 use Rattle.supply.specs.declared.Lasting.{Lasting}
 use Rattle.supply.specs.declared.Supply.{Supply}
 use Rattle.supply.specs.declared.Supply.the-variants.{Lasts, Refused}
 use Rattle.supply.specs.declared.taking.Stride.{Stride}
 use Rattle.supply.specs.declared.walk.Walk.{Walk}
-use Rattle.verdict.specs.code.Ready.{Classed}
 
--- the walk stands on a day that is to be looked at; cs has the classes of the plan's periods
-pub record Going (choice : ℕ) (p cs : List ℕ) (w : Walk) : Type 0 where
+-- the walk stands on a day that is to be looked at
+pub record Looking (choice : ℕ) (p : List ℕ) (w : Walk) : Type 0 where
   pub orderly : Orderly choice p
-  pub classed : Classed p cs
   pub on : w .going ≡ true
   pub counted : w .start + w .count ≤ w .day
   pub within : w .day ≤ w .stop
   pub dated : w .stop ≤ lastNumber
+
+-- and knows where that day stands, unless it is the first, or behind those that are known
+pub record Going (choice : ℕ) (p : List ℕ) (w : Walk) : Type 0 where
+  pub looks : Looking choice p w
+  pub marks : Marks choice p (w .chosen)
+  pub known : 0 < w .count → w .day ≤ w .today .until → Known choice p (w .day) (w .today)
+
+-- and knows where that day stands
+pub record Able (choice : ℕ) (p : List ℕ) (w : Walk) : Type 0 where
+  pub looks : Looking choice p w
   pub known : Known choice p (w .day) (w .today)
 
 -- a walk that is ready: it stands on its first day, or is refused and over
-pub record Ready (choice : ℕ) (p cs : List ℕ) (w : Walk) : Type 0 where
+pub record Ready (choice : ℕ) (p : List ℕ) (w : Walk) : Type 0 where
   pub over : w .refused ≡ true → w .going ≡ false
   pub goes : w .refused ≡ false → w .going ≡ true
   pub first : w .refused ≡ false → (w .day ≡ w .start) × (w .count ≡ 0)
-  pub at : w .refused ≡ false → Going choice p cs w
+  pub at : w .refused ≡ false → Going choice p w
 
 -- s is what the pauses say from day d on: whether it is paused, and up to which day the days are as it is
 pub record Seen (ps : List Pause) (d : ℕ) (s : Sight) : Type 0 where
@@ -82,10 +91,11 @@ pub record Stays (choice : ℕ) (p : List ℕ) (w : Walk) (x : Stride) : Type 0 
   pub one : x .still ≡ false → x .days ≡ 1
 
 -- r is the walk w, and knows where its day stands
-pub record Renewed (choice : ℕ) (p : List ℕ) (w r : Walk) : Type 0 where
+pub record Stood (choice : ℕ) (p : List ℕ) (w r : Walk) : Type 0 where
   pub refused-is : r .refused ≡ w .refused
   pub refusal-is : r .refusal ≡ w .refusal
   pub going-is : r .going ≡ w .going
+  pub chosen-is : r .chosen ≡ w .chosen
   pub start-is : r .start ≡ w .start
   pub stop-is : r .stop ≡ w .stop
   pub day-is : r .day ≡ w .day
@@ -97,12 +107,13 @@ pub record Renewed (choice : ℕ) (p : List ℕ) (w r : Walk) : Type 0 where
 pub record Advanced (choice : ℕ) (p : List ℕ) (w : Walk) (x : Stride) (r : Walk) : Type 0 where
   pub refused-is : r .refused ≡ w .refused
   pub refusal-is : r .refusal ≡ w .refusal
+  pub chosen-is : r .chosen ≡ w .chosen
   pub start-is : r .start ≡ w .start
   pub stop-is : r .stop ≡ w .stop
   pub day-is : r .day ≡ w .day + x .days
   pub rest-is : r .rest ≡ w .rest - x .need
   pub count-is : r .count ≡ w .count + 1
-  pub goes : w .day + x .days ≤ w .stop → (r .going ≡ true) × Known choice p (w .day + x .days) (r .today)
+  pub goes : w .day + x .days ≤ w .stop → (r .going ≡ true) × (w .day + x .days ≤ r .today .until → Known choice p (w .day + x .days) (r .today))
   pub over : w .stop < w .day + x .days → r .going ≡ false
 
 -- what the walk has come to
@@ -127,11 +138,10 @@ pub record Onward (choice : ℕ) (p : List ℕ) (ps : List Pause) (w r : Walk) :
   pub outcome-is : outcomeOf choice p ps r ≡ outcomeOf choice p ps w
   pub over : r .going ≡ false → outcomeOf choice p ps r ≡ stateOf r
 
--- r is the walk w some steps later, or over: whatever the pauses are, if s is what they say from the day of w on
-pub record Went (choice : ℕ) (p cs : List ℕ) (s : Sight) (w r : Walk) : Type 0 where
+-- r is the walk w a step later, or over: whatever the pauses are, if s is what they say from the day of w on
+pub record Went (choice : ℕ) (p : List ℕ) (s : Sight) (w r : Walk) : Type 0 where
   pub less : left r < left w
-  pub later : w .day ≤ r .day
-  pub at : r .going ≡ true → Going choice p cs r
+  pub at : r .going ≡ true → Going choice p r
   pub onward : (ps : List Pause) → Seen ps (w .day) s → Onward choice p ps w r
 
 -- why it ended: short of the stop day's end, or behind it

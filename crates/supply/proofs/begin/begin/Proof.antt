@@ -1,10 +1,12 @@
 use mathlib.Core.Bool.{true}
 use mathlib.Core.Path.{_≡_, refl, sym, _∙_}
+use native.Mathlib.Omega.{arith}
 use borrow.Author.Needs.{needs}
 use borrow.Author.Tests.{not-true, not-false}
 use Rattle.need.proofs.Found.{classed-any, classed-day}
 use Rattle.supply.specs.code.Asking.{isAsked}
 use Rattle.supply.proofs.Accepted.{orderly}
+use Rattle.supply.proofs.Choosing.{marked-by}
 use Rattle.supply.proofs.Beginning.{begun-refused, begun-unasked, begun-own, begun-going}
 use Rattle.verdict.proofs.Exactly.{accepted-only}
 use Rattle.supply.proofs.begin.begin.Statement.{statement}
@@ -55,11 +57,16 @@ returns-3 c =
 alone-requires-3 : tie.Need-alone-requires-3
 alone-requires-3 c κs = search needs
 
-on-day-requires : tie.Need-on-day-requires
-on-day-requires c κs =
-    let f = c .before .before .before .before .before .before .before .if1 .left in
-    let j = c .before .before .before .before .before .before .before .before .before .pre in
-    (orderly _ (accepted-only _ (j .accepted f .1)) _, j .classed f, j .start-in f)
+cast-chosen-by : tie.Need-cast-chosen-by
+cast-chosen-by c =
+    let a = c .before .before .before .before .before .before .before .before .before in
+    let few = orderly _ (accepted-only _ (a .pre .accepted (c .before .before .before .before .before .before .before .if1 .left) .1)) (a .args .choice) .few in
+    record { fits = omega (arith, few) }
+
+chosen-by-requires : tie.Need-chosen-by-requires
+chosen-by-requires c κs =
+    let a = c .before .before .before .before .before .before .before .before .before in
+    orderly _ (accepted-only _ (a .pre .accepted (c .before .before .before .before .before .before .before .if1 .left) .1)) (a .args .choice) .few
 
 returns-4 : tie.Need-returns-4
 returns-4 c =
@@ -71,7 +78,7 @@ returns-4 c =
     let t : isAsked (a .asked) (a .choice) ≡ true = sym (c .before .before .before .before .before .before .before .is-asked .ensures) ∙ not-false _ (c .before .before .before .before .before .before .if2 .left) in
     let l = classed-day (a .choice) k in
     begun-going f t (c .before .before .before .own-by .ensures ∙ rw (s .0, s .1, classed-any (a .choice) k, l)) (c .before .before .if3 .left) j
-    (record { unrefused-is = refl; on = refl; start-is = refl; stop-is = s .1 ∙ l; day-is = refl; count-is = refl; rest-is = refl; known = c .on-day .ensures })
+    (record { unrefused-is = refl; on = refl; start-is = refl; stop-is = s .1 ∙ l; day-is = refl; count-is = refl; rest-is = refl; marks = marked-by (a .choice) k refl (c .chosen-by .ensures) })
 
 pub begin-spec : {M : Type 1} → statement M
 begin-spec =
@@ -89,5 +96,6 @@ begin-spec =
     refused-requires-3
     returns-3
     alone-requires-3
-    on-day-requires
+    cast-chosen-by
+    chosen-by-requires
     returns-4)

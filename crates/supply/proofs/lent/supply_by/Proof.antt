@@ -152,16 +152,16 @@ module _ {M : Type 1} (𝓤 : URA M) (H : Heap 𝓤) (A : Atoms 𝓤) (W : Given
   -- ---- the call of `walked`
   module _ (b : Walk) (v : Val) where
     abbrev handed : Args days.signature κs
-    handed = (x, (choice, (a, (y, (b, tt)))))
+    handed = (x, (choice, (y, (b, tt))))
 
     abbrev to-days : Days 𝓤 H A mem run .Ghost
-    to-days = ((κs, (q, (q′, tt)), tt, handed, (xv ∷ [], (vint w32 choice ∷ [], (av ∷ [], (yv ∷ [], (v ∷ [], tt)))))), tt)
+    to-days = ((κs, (q, (q′, tt)), tt, handed, (xv ∷ [], (vint w32 choice ∷ [], (yv ∷ [], (v ∷ [], tt))))), tt)
 
-    asks-days : choice < 2 ^ 32 → Is Ak a (av ∷ []) → Is Wk b (v ∷ []) → Ready choice (x .now) (a .classes) b → ent 𝓤 (sep 𝓤 (mean 𝓤 H A (‵ (flft κ q) ⊛ Plan)) (mean 𝓤 H A (‵ (flft κ′ q′) ⊛ Lent))) (Days 𝓤 H A mem run .pre to-days)
-    asks-days gc isₐ is ready =
+    asks-days : choice < 2 ^ 32 → Is Wk b (v ∷ []) → Ready choice (x .now) b → ent 𝓤 (sep 𝓤 (mean 𝓤 H A (‵ (flft κ q) ⊛ Plan)) (mean 𝓤 H A (‵ (flft κ′ q′) ⊛ Lent))) (Days 𝓤 H A mem run .pre to-days)
+    asks-days gc is ready =
         qed W ((‵ (flft κ q) ⊛ Plan) ∷ (‵ (flft κ′ q′) ⊛ Lent) ∷ []) ∵ says ! ready $ split ! $ move ! (2 ∷ []) $ split ! $
         -- [the other token; what pauses owns; the token; what plan owns]
-        nothing ! $ owned ! Wk (Is Wk) walk-makes b _ is $ fjoin ! $ move ! (2 ∷ 0 ∷ []) $ fjoin ! $ owned ! Ak (Is Ak) (asked-makes 𝓤 H A mem run) a _ isₐ $ fjoin ! $ owned ! u32 (Is u32) (uint-makes 𝓤 H A W w32) choice _ (refl, gc) $ fjoin ! $ move ! (3 ∷ 0 ∷ []) $ fjoin ! $
+        nothing ! $ owned ! Wk (Is Wk) walk-makes b _ is $ fjoin ! $ move ! (2 ∷ 0 ∷ []) $ fjoin ! $ owned ! u32 (Is u32) (uint-makes 𝓤 H A W w32) choice _ (refl, gc) $ fjoin ! $ move ! (3 ∷ 0 ∷ []) $ fjoin ! $
         nothing ! $ move ! (2 ∷ 0 ∷ []) $ join ! $ move ! (2 ∷ 0 ∷ []) $ join ! $ done !
 
     abbrev said-days : Walk → SProp 𝓤
@@ -214,10 +214,10 @@ module _ {M : Type 1} (𝓤 : URA M) (H : Heap 𝓤) (A : Atoms 𝓤) (W : Given
         land ! (from ! (stop !)) (init ! 5 refl (LL.lawful T.the-type T′.the-laws 𝓤 H A W .typed b _ is₂ .0)) $ drop ! $ split ! $ move ! (1 ∷ []) $ drop ! $
         -- [the token; what plan owns; the other token; what pauses owns; _6; …; _0; …]
         move ! (1 ∷ 0 ∷ 3 ∷ 2 ∷ []) $
-        lends-both 𝓤 H A κ κ′ q q′ x y ! (use2 W (raw (Days 𝓤 H A mem run .pre (to-days b v))) (asks-days b v gc is is₂ (begun .ready)) $
+        lends-both 𝓤 H A κ κ′ q q′ x y ! (use2 W (raw (Days 𝓤 H A mem run .pre (to-days b v))) (asks-days b v gc is₂ (begun .ready)) $
         -- [what `walked` asks; what pauses owns; what plan owns; _6; …; _0; …]
         calls-told ! fm (Days 𝓤 H A mem run) (known .days-met) (to-days b v) Wk toks (said-days b v) (λ w. Ended choice (x .now) (y .now) b w) (λ u. id⊢ 𝓤 _) (tells-days b v)
-        (and-then ! (load ! (from ! (stop !)) (look ! 13 refl)) (and-then ! (load ! (from ! (stop !)) (look ! 9 refl)) (and-then ! (load ! (from ! (stop !)) (look ! 11 refl)) (and-then ! (load ! (from ! (stop !)) (look ! 7 refl)) (and-then ! (load ! (from ! (stop !)) (look ! 3 refl)) (no-more !)))))) (λ v₂ w over is₃.
+        (and-then ! (load ! (from ! (stop !)) (look ! 13 refl)) (and-then ! (load ! (from ! (stop !)) (look ! 9 refl)) (and-then ! (load ! (from ! (stop !)) (look ! 7 refl)) (and-then ! (load ! (from ! (stop !)) (look ! 3 refl)) (no-more !))))) (λ v₂ w over is₃.
         -- [what the walk owns; the tokens; what pauses owns; what plan owns; _6; …; _0; …]
         land ! (from ! (stop !)) (init ! 6 refl (LL.lawful T.the-type T′.the-laws 𝓤 H A W .typed w _ is₃ .0)) $
         use1 W (raw (Ends 𝓤 H A mem run .pre (to-ended w v₂))) (asks-ended w v₂ (ended-asks choice (x .now) (y .now) b w over)) $

@@ -1,4 +1,4 @@
--- `supply::walked` meets its contract: a walk of its MIR, by hand, with a loop. A turn asks `is_going`, `day_of` and `sight_from`, and goes on by `stretch`; all that the
+-- `supply::walked` meets its contract: a walk of its MIR, by hand, with a loop. A turn asks `is_going`, `day_of` and `sight_from`, and goes on by `step`; all that the
 -- proof knows of the four is that they meet their contracts. The invariant is proofs/Walking.antt's. The walk is plain data: whenever a callee asks for it, it is had anew.
 -- Assumes nothing.
 use mathlib.Core.Bool.{Bool, true, false, not}
@@ -55,12 +55,8 @@ use Rattle.pause.proofs.sight_from.Symbol as sight-def
 use Rattle.pause.proofs.sight_from.Symbol.{name as #pause·lent·sight-from}
 use Rattle.pause.proofs.sight_from.Met as sight-thm
 use Rattle.supply.specs.declared.walk.Walk.{Walk}
-use Rattle.supply.specs.declared.ask.Asked.{Asked}
 use Rattle.supply.specs.code.Walking.{Going, Ready, Seen, Went, Ended, left}
-use Rattle.supply.proofs.Lending.{Ak, asked-makes}
 use Rattle.supply.proofs.Walking.{Inv, begins, turns as goes-round, ends, seen-from}
-use Rattle.supply.proofs.ask.Asked as Q
-use Rattle.supply.proofs.ask.Asked.Laws as Q′
 use Rattle.supply.proofs.walk.Walk as T
 use Rattle.supply.proofs.walk.Walk.Laws as T′
 use Rattle.supply.proofs.walk.is_going as going
@@ -71,10 +67,10 @@ use Rattle.supply.proofs.walk.day_of as day
 use Rattle.supply.proofs.walk.day_of.Symbol as day-def
 use Rattle.supply.proofs.walk.day_of.Symbol.{name as #supply·walk·day-of}
 use Rattle.supply.proofs.walk.day_of.Met as day-thm
-use Rattle.supply.proofs.walk.stretch as stretch
-use Rattle.supply.proofs.walk.stretch.Symbol as stretch-def
-use Rattle.supply.proofs.walk.stretch.Symbol.{name as #supply·walk·stretch}
-use Rattle.supply.proofs.walk.stretch.Met as stretch-thm
+use Rattle.supply.proofs.walk.step as step
+use Rattle.supply.proofs.walk.step.Symbol as step-def
+use Rattle.supply.proofs.walk.step.Symbol.{name as #supply·walk·step}
+use Rattle.supply.proofs.walk.step.Met as step-thm
 use Rattle.supply.proofs.lent.walked.Key.{name as #supply·lent·walked}
 use Rattle.supply.proofs.lent.walked as f
 use Rattle.supply.proofs.lent.walked.Statement as stated
@@ -88,9 +84,6 @@ Wk = T.the-row
 abbrev wk : Ty
 wk = spell part.table (pointee (Wk .written))
 
-abbrev ak : Ty
-ak = spell part.table (pointee (Ak .written))
-
 abbrev sg : Ty
 sg = spell part.table (pointee (Sg .written))
 
@@ -101,7 +94,7 @@ abbrev slice : Ty
 slice = sliceTy (tyRef (named 1) imm (pointee (One .written)))
 
 abbrev stayed : Stays (f.ended .signature .params) (f.ended .kept)
-stayed = (stay-none-slice (0 ∷ []) tt (plain (λ _. u8)) yes, (stay-none (λ _. u32) yes, (stay-none (λ _. Ak) yes, (stay-none-slice (1 ∷ []) tt (plain (λ _. One)) yes, (stay-none (λ _. Wk) yes, tt)))))
+stayed = (stay-none-slice (0 ∷ []) tt (plain (λ _. u8)) yes, (stay-none (λ _. u32) yes, (stay-none-slice (1 ∷ []) tt (plain (λ _. One)) yes, (stay-none (λ _. Wk) yes, tt))))
 
 -- ---- what the loop's test says
 is-true : (b : Bool) → Holds b → b ≡ true
@@ -136,17 +129,17 @@ module _ {M : Type 1} (𝓤 : URA M) (H : Heap 𝓤) (A : Atoms 𝓤) (mem : Mem
   abbrev SightFrom : Contract 𝓤
   SightFrom = tripleOf 𝓤 H A sight.signature (sight.spec 𝓤 H A mem run)
 
-  abbrev Stretch : Contract 𝓤
-  Stretch = tripleOf 𝓤 H A stretch.signature (stretch.spec 𝓤 H A mem run)
+  abbrev Step : Contract 𝓤
+  Step = tripleOf 𝓤 H A step.signature (step.spec 𝓤 H A mem run)
 
   -- what is known of the four
   record Callees (C : Calls 𝓤 H) : Type 2 where
     pub going-met : Triple 𝓤 (C #supply·walk·is-going) IsGoing
     pub day-met : Triple 𝓤 (C #supply·walk·day-of) DayOf
     pub sight-met : Triple 𝓤 (C #pause·lent·sight-from) SightFrom
-    pub stretch-met : Triple 𝓤 (C #supply·walk·stretch) Stretch
+    pub step-met : Triple 𝓤 (C #supply·walk·step) Step
 
-module _ {M : Type 1} (𝓤 : URA M) (H : Heap 𝓤) (A : Atoms 𝓤) (W : Given 𝓤 H A) (mem : Memory → SProp 𝓤) (run : Routine → Fun 𝓤) (κ κ′ : Lft) (q q′ : Share) (x : RefT (List ℕ)) (choice : ℕ) (a : Asked) (av : Val) (y : RefT (List Pause)) (w₀ : Walk) (v₀ : Val) where
+module _ {M : Type 1} (𝓤 : URA M) (H : Heap 𝓤) (A : Atoms 𝓤) (W : Given 𝓤 H A) (mem : Memory → SProp 𝓤) (run : Routine → Fun 𝓤) (κ κ′ : Lft) (q q′ : Share) (x : RefT (List ℕ)) (choice : ℕ) (y : RefT (List Pause)) (w₀ : Walk) (v₀ : Val) where
   abbrev κs : Lfts 2
   κs = (κ, (κ′, tt))
 
@@ -164,10 +157,10 @@ module _ {M : Type 1} (𝓤 : URA M) (H : Heap 𝓤) (A : Atoms 𝓤) (W : Given
   Lent = ShrSlice (named 1) κ′ One .own y (yv ∷ [])
 
   abbrev args : Args f.signature κs
-  args = (x, (choice, (a, (y, (w₀, tt)))))
+  args = (x, (choice, (y, (w₀, tt))))
 
   abbrev at : Vals f.signature κs
-  at = (xv ∷ [], (vint w32 choice ∷ [], (av ∷ [], (yv ∷ [], (v₀ ∷ [], tt)))))
+  at = (xv ∷ [], (vint w32 choice ∷ [], (yv ∷ [], (v₀ ∷ [], tt))))
 
   abbrev tok : Item 𝓤
   tok = ‵ (flft κ q) ⊛ ‵ ftrue
@@ -181,19 +174,16 @@ module _ {M : Type 1} (𝓤 : URA M) (H : Heap 𝓤) (A : Atoms 𝓤) (W : Given
   walk-makes : Makes 𝓤 H A Wk (Is Wk)
   walk-makes = LL.makes T.the-type T′.the-plain 𝓤 H A
 
-  asked-typed : Is Ak a (av ∷ []) → Holds (hasTy Q′.mir av) × WT av
-  asked-typed is = LL.lawful Q.the-type Q′.the-laws 𝓤 H A W .typed a (av ∷ []) is .0
-
   walk-typed : (w : Walk) (v : Val) → Is Wk w (v ∷ []) → Holds (hasTy T′.mir v) × WT v
   walk-typed w v is = LL.lawful T.the-type T′.the-laws 𝓤 H A W .typed w (v ∷ []) is .0
 
-  exits : choice < 2 ^ 32 → Is Ak a (av ∷ []) → Is Wk w₀ (v₀ ∷ []) → (w : Walk) (v : Val) → Ended choice (x .now) (y .now) w₀ w → Is Wk w (v ∷ []) → ent 𝓤 (⋆ 𝓤 H A (‵ (flft κ q) ∷ ‵ Plan ∷ ‵ (flft κ′ q′) ∷ ‵ Lent ∷ [])) (Post′ v)
-  exits gc isₐ is₀ w v e is =
+  exits : choice < 2 ^ 32 → Is Wk w₀ (v₀ ∷ []) → (w : Walk) (v : Val) → Ended choice (x .now) (y .now) w₀ w → Is Wk w (v ∷ []) → ent 𝓤 (⋆ 𝓤 H A (‵ (flft κ q) ∷ ‵ Plan ∷ ‵ (flft κ′ q′) ∷ ‵ Lent ∷ [])) (Post′ v)
+  exits gc is₀ w v e is =
       qed W (‵ (flft κ q) ∷ ‵ Plan ∷ ‵ (flft κ′ q′) ∷ ‵ Lent ∷ []) ∵
-      suffices ! _ (ends-at 𝓤 H A f.ended stayed (f.clauses 𝓤 H A mem run) W ((κs, (q, (q′, tt)), tt, args, at), tt) v w (tt, (tt, (tt, (tt, (tt, tt))))) (tt, (tt, (tt, (tt, (tt, tt)))))) $ says ! e $
+      suffices ! _ (ends-at 𝓤 H A f.ended stayed (f.clauses 𝓤 H A mem run) W ((κs, (q, (q′, tt)), tt, args, at), tt) v w (tt, (tt, (tt, (tt, tt)))) (tt, (tt, (tt, (tt, tt))))) $ says ! e $
       nothing ! $ move ! (3 ∷ 0 ∷ []) $ join ! $ move ! (1 ∷ 0 ∷ []) $ join ! $ frame ! $
       -- [what plan owns; what pauses owns]
-      nothing ! $ owned ! Wk (Is Wk) walk-makes w₀ _ is₀ $ fjoin ! $ move ! (2 ∷ 0 ∷ []) $ fjoin ! $ owned ! Ak (Is Ak) (asked-makes 𝓤 H A mem run) a _ isₐ $ fjoin ! $
+      nothing ! $ owned ! Wk (Is Wk) walk-makes w₀ _ is₀ $ fjoin ! $ move ! (2 ∷ 0 ∷ []) $ fjoin ! $
       owned ! u32 (Is u32) (uint-makes 𝓤 H A W w32) choice _ (refl, gc) $ fjoin ! $ move ! (1 ∷ 0 ∷ []) $ fjoin ! $ frame ! $
       owned ! Wk (Is Wk) walk-makes w _ is $ done !
 
@@ -239,31 +229,31 @@ module _ {M : Type 1} (𝓤 : URA M) (H : Heap 𝓤) (A : Atoms 𝓤) (W : Given
     tells-sight : (r : Sight) → ent 𝓤 (said-sight r) (fact 𝓤 (r ≡ sightOf (y .now) d))
     tells-sight r = exE 𝓤 _ (λ ws. snd∗ 𝓤 (sem 𝓤 H A (lasts sight.ended (κ′, tt) (y, (d, tt)) ws)) (fact 𝓤 (r ≡ sightOf (y .now) d)))
 
-  -- ---- the call of `stretch`
+  -- ---- the call of `step`
   module _ (w : Walk) (v : Val) (b : Sight) (bv : Val) where
-    abbrev sent : Args stretch.signature (κ, tt)
-    sent = (x, (choice, (a, (w, (b, tt)))))
+    abbrev sent : Args step.signature (κ, tt)
+    sent = (x, (choice, (w, (b, tt))))
 
-    abbrev to-stretch : Stretch 𝓤 H A mem run .Ghost
-    to-stretch = (((κ, tt), (q, tt), tt, sent, (xv ∷ [], (vint w32 choice ∷ [], (av ∷ [], (v ∷ [], (bv ∷ [], tt)))))), tt)
+    abbrev to-step : Step 𝓤 H A mem run .Ghost
+    to-step = (((κ, tt), (q, tt), tt, sent, (xv ∷ [], (vint w32 choice ∷ [], (v ∷ [], (bv ∷ [], tt))))), tt)
 
-    asks-stretch : choice < 2 ^ 32 → Is Ak a (av ∷ []) → Is Wk w (v ∷ []) → Is Sg b (bv ∷ []) → Going choice (x .now) (a .classes) w × (w .day ≤ b .until) → ent 𝓤 (sep 𝓤 (A .lft κ q) (sem 𝓤 H A Plan)) (Stretch 𝓤 H A mem run .pre to-stretch)
-    asks-stretch gc isₐ is isb g =
+    asks-step : choice < 2 ^ 32 → Is Wk w (v ∷ []) → Is Sg b (bv ∷ []) → Going choice (x .now) w × (w .day ≤ b .until) → ent 𝓤 (sep 𝓤 (A .lft κ q) (sem 𝓤 H A Plan)) (Step 𝓤 H A mem run .pre to-step)
+    asks-step gc is isb g =
         qed W (‵ (flft κ q) ∷ ‵ Plan ∷ []) ∵ says ! g $ nothing ! $ owned ! Sg (Is Sg) (seen-makes 𝓤 H A) b _ isb $ fjoin ! $
-        owned ! Wk (Is Wk) walk-makes w _ is $ fjoin ! $ owned ! Ak (Is Ak) (asked-makes 𝓤 H A mem run) a _ isₐ $ fjoin ! $ owned ! u32 (Is u32) (uint-makes 𝓤 H A W w32) choice _ (refl, gc) $ fjoin ! $ move ! (2 ∷ 0 ∷ []) $ fjoin ! $
+        owned ! Wk (Is Wk) walk-makes w _ is $ fjoin ! $ owned ! u32 (Is u32) (uint-makes 𝓤 H A W w32) choice _ (refl, gc) $ fjoin ! $ move ! (2 ∷ 0 ∷ []) $ fjoin ! $
         nothing ! $ move ! (2 ∷ 0 ∷ []) $ join ! $ done !
 
-    abbrev said-stretch : Walk → SProp 𝓤
-    said-stretch r = ensured 𝓤 H A stretch.ended (stretch.clauses 𝓤 H A mem run) (κ, tt) sent tt r
+    abbrev said-step : Walk → SProp 𝓤
+    said-step r = ensured 𝓤 H A step.ended (step.clauses 𝓤 H A mem run) (κ, tt) sent tt r
 
-    tells-stretch : (r : Walk) → ent 𝓤 (said-stretch r) (fact 𝓤 (Went choice (x .now) (a .classes) b w r))
-    tells-stretch r = exE 𝓤 _ (λ ws. snd∗ 𝓤 (sem 𝓤 H A (lasts stretch.ended (κ, tt) sent ws)) (fact 𝓤 (Went choice (x .now) (a .classes) b w r)))
+    tells-step : (r : Walk) → ent 𝓤 (said-step r) (fact 𝓤 (Went choice (x .now) b w r))
+    tells-step r = exE 𝓤 _ (λ ws. snd∗ 𝓤 (sem 𝓤 H A (lasts step.ended (κ, tt) sent ws)) (fact 𝓤 (Went choice (x .now) b w r)))
 
   -- the loop's state: the walk w, whose machine value is v
   record State : Type 0 where
     pub w : Walk
     pub v : Val
-    pub inv : Inv choice (x .now) (a .classes) (y .now) w₀ w
+    pub inv : Inv choice (x .now) (y .now) w₀ w
     pub is : Is Wk w (v ∷ [])
 
   abbrev On : State → State → Type 0
@@ -272,23 +262,23 @@ module _ {M : Type 1} (𝓤 : URA M) (H : Heap 𝓤) (A : Atoms 𝓤) (W : Given
   on-wf : WellFounded On
   on-wf = InvImage·wf (λ (s : State). left (s .w)) (Nat·lt-wfRel .wf)
 
-  start : Ready choice (x .now) (a .classes) w₀ → Is Wk w₀ (v₀ ∷ []) → State
-  start ready is₀ = record { w = w₀; v = v₀; inv = begins choice (x .now) (a .classes) (y .now) w₀ ready; is = is₀ }
+  start : Ready choice (x .now) w₀ → Is Wk w₀ (v₀ ∷ []) → State
+  start ready is₀ = record { w = w₀; v = v₀; inv = begins choice (x .now) (y .now) w₀ ready; is = is₀ }
 
   -- what the list says of the walk's day d
   module _ (s : State) (going : s .w .going ≡ true) (d : ℕ) (b : Sight) (day-is : d ≡ s .w .day) (sight-is : b ≡ sightOf (y .now) d) where
     in-sight : Seen (y .now) (s .w .day) b
-    in-sight = let g = s .inv .at going in seen-from (y .now) (s .w .day) (omega (arith, g .within, g .dated)) (sight-is ∙ ap (sightOf (y .now)) day-is)
+    in-sight = let g = s .inv .at going .looks in seen-from (y .now) (s .w .day) (omega (arith, g .within, g .dated)) (sight-is ∙ ap (sightOf (y .now)) day-is)
 
-  -- a stretch on
-  module _ (s : State) (going : s .w .going ≡ true) (d : ℕ) (b : Sight) (r : Walk) (v : Val) (day-is : d ≡ s .w .day) (sight-is : b ≡ sightOf (y .now) d) (went : Went choice (x .now) (a .classes) b (s .w) r) (is : Is Wk r (v ∷ [])) where
-    stepped : Inv choice (x .now) (a .classes) (y .now) w₀ r × (left r < left (s .w))
-    stepped = (goes-round choice (x .now) (a .classes) (y .now) w₀ (s .inv) going (in-sight s going d b day-is sight-is) went, went .less)
+  -- a step on
+  module _ (s : State) (going : s .w .going ≡ true) (d : ℕ) (b : Sight) (r : Walk) (v : Val) (day-is : d ≡ s .w .day) (sight-is : b ≡ sightOf (y .now) d) (went : Went choice (x .now) b (s .w) r) (is : Is Wk r (v ∷ [])) where
+    stepped : Inv choice (x .now) (y .now) w₀ r × (left r < left (s .w))
+    stepped = (goes-round choice (x .now) (y .now) w₀ (s .inv) going (in-sight s going d b day-is sight-is) went, went .less)
 
     goes-on : State
     goes-on = record { w = r; v = v; inv = stepped .0; is = is }
 
-  module _ (𝓣 : Tables 𝓤 H) (known : Callees 𝓤 H A mem run (𝓣 .C)) (gc : choice < 2 ^ 32) (isₐ : Is Ak a (av ∷ [])) (is₀ : Is Wk w₀ (v₀ ∷ [])) (l₀ l₁ l₂ l₃ l₄ l₅ l₆ l₇ l₈ l₉ : ℕ) where
+  module _ (𝓣 : Tables 𝓤 H) (known : Callees 𝓤 H A mem run (𝓣 .C)) (gc : choice < 2 ^ 32) (is₀ : Is Wk w₀ (v₀ ∷ [])) (l₀ l₁ l₂ l₃ l₄ l₅ l₆ l₇ l₈ : ℕ) where
     abbrev C : Calls 𝓤 H
     C = 𝓣 .C
 
@@ -296,13 +286,12 @@ module _ {M : Type 1} (𝓤 : URA M) (H : Heap 𝓤) (A : Atoms 𝓤) (W : Given
     Λ = 𝓣 .Λ
 
     abbrev En : Env 𝓤 H
-    En = (wk, l₀) ∷ (bytes, l₁) ∷ (tyInt w32, l₂) ∷ (ak, l₃) ∷ (slice, l₄) ∷ (wk, l₅) ∷ (wk, l₆) ∷ (tyBool, l₇) ∷ (sg, l₈) ∷ (tyInt w32, l₉) ∷ []
+    En = (wk, l₀) ∷ (bytes, l₁) ∷ (tyInt w32, l₂) ∷ (slice, l₃) ∷ (wk, l₄) ∷ (wk, l₅) ∷ (tyBool, l₆) ∷ (sg, l₇) ∷ (tyInt w32, l₈) ∷ []
 
-    -- the context at a state: _9, …, _0, each with its end; each token and what its slice owns
+    -- the context at a state: _8, …, _0, each with its end; each token and what its slice owns
     abbrev Stand : State → List (Item 𝓤)
-    Stand s = ‵ (froom (tyInt w32) l₉ 0) ∷ ‵ (fdies (tyInt w32) l₉) ∷ ‵ (froom sg l₈ 0) ∷ ‵ (fdies sg l₈) ∷ ‵ (froom tyBool l₇ 0) ∷ ‵ (fdies tyBool l₇)
-        ∷ ‵ (fat fullShare wk l₆ 0 (s .v)) ∷ ‵ (fdies wk l₆) ∷ ‵ (fat fullShare wk l₅ 0 v₀) ∷ ‵ (fdies wk l₅) ∷ ‵ (fat fullShare slice l₄ 0 yv) ∷ ‵ (fdies slice l₄)
-        ∷ ‵ (fat fullShare ak l₃ 0 av) ∷ ‵ (fdies ak l₃)
+    Stand s = ‵ (froom (tyInt w32) l₈ 0) ∷ ‵ (fdies (tyInt w32) l₈) ∷ ‵ (froom sg l₇ 0) ∷ ‵ (fdies sg l₇) ∷ ‵ (froom tyBool l₆ 0) ∷ ‵ (fdies tyBool l₆)
+        ∷ ‵ (fat fullShare wk l₅ 0 (s .v)) ∷ ‵ (fdies wk l₅) ∷ ‵ (fat fullShare wk l₄ 0 v₀) ∷ ‵ (fdies wk l₄) ∷ ‵ (fat fullShare slice l₃ 0 yv) ∷ ‵ (fdies slice l₃)
         ∷ ‵ (fat fullShare (tyInt w32) l₂ 0 (vint w32 choice)) ∷ ‵ (fdies (tyInt w32) l₂) ∷ ‵ (fat fullShare bytes l₁ 0 xv) ∷ ‵ (fdies bytes l₁) ∷ ‵ (froom wk l₀ 0) ∷ ‵ (fdies wk l₀)
         ∷ ‵ (flft κ q) ∷ ‵ Plan ∷ ‵ (flft κ′ q′) ∷ ‵ Lent ∷ []
 
@@ -316,9 +305,9 @@ module _ {M : Type 1} (𝓤 : URA M) (H : Heap 𝓤) (A : Atoms 𝓤) (W : Given
         owned ! Wk (Is Wk) walk-makes (s .w) _ (s .is) $ use1 W (raw (IsGoing 𝓤 H A mem run .pre (to-going (s .w) (s .v)))) (asks-going (s .w) (s .v)) $
         calls-told ! (fmOf 𝓤 H (W .laws) 𝓣) (IsGoing 𝓤 H A mem run) (known .going-met) (to-going (s .w) (s .v)) bool (‵ ftrue) (said-going (s .w) (s .v)) (λ t. t ≡ s .w .going) (λ u. id⊢ 𝓤 _) (tells-going (s .w) (s .v))
         (and-then ! (load ! (from ! (stop !)) (look ! 7 refl)) (no-more !)) (λ u t e is.
-        -- [the answer; true; _9; …; _0; …; a token; what plan owns; the other token; what pauses owns]
+        -- [the answer; true; _8; …; _0; …; a token; what plan owns; the other token; what pauses owns]
         land ! (from ! (stop !)) (init ! 6 refl (bool-lawful 𝓤 H A W .typed t _ is .0)) $ drop ! $ drop ! $
-        rewrite ! 4 (λ (z : Val). ‵ (fat fullShare tyBool l₇ 0 z)) (ap only is ∙ ap vbool e) refl $
+        rewrite ! 4 (λ (z : Val). ‵ (fat fullShare tyBool l₆ 0 z)) (ap only is ∙ ap vbool e) refl $
         tests ! (load ! (from ! (stop !)) (look ! 4 refl))
         (λ goes.
         let going : s .w .going ≡ true = is-true (s .w .going) goes in
@@ -326,60 +315,60 @@ module _ {M : Type 1} (𝓤 : URA M) (H : Heap 𝓤) (A : Atoms 𝓤) (W : Given
         calls-told ! (fmOf 𝓤 H (W .laws) 𝓣) (DayOf 𝓤 H A mem run) (known .day-met) (to-day (s .w) (s .v)) u32 (‵ ftrue) (said-day (s .w) (s .v)) (λ d. d ≡ s .w .day) (λ u. id⊢ 𝓤 _) (tells-day (s .w) (s .v))
         (and-then ! (load ! (from ! (stop !)) (look ! 7 refl)) (no-more !)) (λ u d day-is is₂.
         land ! (from ! (stop !)) (init ! 2 refl (uint-lawful 𝓤 H A W w32 .typed d _ is₂ .0)) $ drop ! $ drop ! $
-        rewrite ! 0 (λ (z : Val). ‵ (fat fullShare (tyInt w32) l₉ 0 z)) (ap only (is₂ .0)) refl $
-        -- [_9; …; _0; …; a token; what plan owns; the other token; what pauses owns]
-        move ! (23 ∷ 22 ∷ []) $ use1 W (‵ Lent ⊛ ‵ Lent) (shr-slice-copy 𝓤 H A W (named 1) κ′ One .twice y (yv ∷ [])) $ split ! $ move ! (2 ∷ 0 ∷ []) $
+        rewrite ! 0 (λ (z : Val). ‵ (fat fullShare (tyInt w32) l₈ 0 z)) (ap only (is₂ .0)) refl $
+        -- [_8; …; _0; …; a token; what plan owns; the other token; what pauses owns]
+        move ! (21 ∷ 20 ∷ []) $ use1 W (‵ Lent ⊛ ‵ Lent) (shr-slice-copy 𝓤 H A W (named 1) κ′ One .twice y (yv ∷ [])) $ split ! $ move ! (2 ∷ 0 ∷ []) $
         use2 W (raw (SightFrom 𝓤 H A mem run .pre (to-sight d))) (asks-sight d (is₂ .1)) $
         calls-told ! (fmOf 𝓤 H (W .laws) 𝓣) (SightFrom 𝓤 H A mem run) (known .sight-met) (to-sight d) Sg tok′ (said-sight d) (λ b. b ≡ sightOf (y .now) d) (λ u. id⊢ 𝓤 _) (tells-sight d)
         (and-then ! (load ! (from ! (stop !)) (look ! 12 refl)) (and-then ! (load ! (from ! (stop !)) (look ! 2 refl)) (no-more !))) (λ bv b sight-is is₃.
-        -- [the answer; the other token; what pauses owns; _9; …; _0; …; a token; what plan owns]
+        -- [the answer; the other token; what pauses owns; _8; …; _0; …; a token; what plan owns]
         land ! (from ! (stop !)) (init ! 5 refl (seen-typed 𝓤 H A W b bv is₃)) $ drop ! $ split ! $
-        -- [the other token; true; what pauses owns; _9; …; _0; …; a token; what plan owns]
-        move ! (24 ∷ []) $ use1 W (‵ Plan ⊛ ‵ Plan) (shr-slice-copy 𝓤 H A W (named 0) κ u8 .twice x (xv ∷ [])) $ split ! $ move ! (25 ∷ 0 ∷ []) $
-        use2 W (raw (Stretch 𝓤 H A mem run .pre (to-stretch (s .w) (s .v) b bv))) (asks-stretch (s .w) (s .v) b bv gc isₐ (s .is) is₃ (s .inv .at going, in-sight s going d b day-is sight-is .reached)) $
-        -- [what `stretch` asks; what plan owns; the other token; true; what pauses owns; _9; …; _0; …]
-        calls-told-last ! (fmOf 𝓤 H (W .laws) 𝓣) (Stretch 𝓤 H A mem run) (known .stretch-met) (to-stretch (s .w) (s .v) b bv) Wk tok (said-stretch (s .w) (s .v) b bv) (λ r. Went choice (x .now) (a .classes) b (s .w) r) (λ u. id⊢ 𝓤 _) (tells-stretch (s .w) (s .v) b bv)
-        (and-then ! (load ! (from ! (stop !)) (look ! 21 refl)) (and-then ! (load ! (from ! (stop !)) (look ! 19 refl)) (and-then ! (load ! (from ! (stop !)) (look ! 17 refl)) (and-then ! (load ! (from ! (stop !)) (look ! 11 refl)) (and-then ! (load ! (from ! (stop !)) (look ! 7 refl)) (no-more !)))))) (λ u r went is₄.
-        -- [what the walk owns; a token; what plan owns; the other token; true; what pauses owns; _9; …; _0; …]
+        -- [the other token; true; what pauses owns; _8; …; _0; …; a token; what plan owns]
+        move ! (22 ∷ []) $ use1 W (‵ Plan ⊛ ‵ Plan) (shr-slice-copy 𝓤 H A W (named 0) κ u8 .twice x (xv ∷ [])) $ split ! $ move ! (23 ∷ 0 ∷ []) $
+        use2 W (raw (Step 𝓤 H A mem run .pre (to-step (s .w) (s .v) b bv))) (asks-step (s .w) (s .v) b bv gc (s .is) is₃ (s .inv .at going, in-sight s going d b day-is sight-is .reached)) $
+        -- [what `step` asks; what plan owns; the other token; true; what pauses owns; _8; …; _0; …]
+        calls-told-last ! (fmOf 𝓤 H (W .laws) 𝓣) (Step 𝓤 H A mem run) (known .step-met) (to-step (s .w) (s .v) b bv) Wk tok (said-step (s .w) (s .v) b bv) (λ r. Went choice (x .now) b (s .w) r) (λ u. id⊢ 𝓤 _) (tells-step (s .w) (s .v) b bv)
+        (and-then ! (load ! (from ! (stop !)) (look ! 19 refl)) (and-then ! (load ! (from ! (stop !)) (look ! 17 refl)) (and-then ! (load ! (from ! (stop !)) (look ! 11 refl)) (and-then ! (load ! (from ! (stop !)) (look ! 7 refl)) (no-more !))))) (λ u r went is₄.
+        -- [what the walk owns; a token; what plan owns; the other token; true; what pauses owns; _8; …; _0; …]
         land-last ! (from ! (stop !)) (store ! 12 refl (walk-typed r u is₄)) $ drop ! $ split ! $ forget ! 6 refl $ forget ! 8 refl $ forget ! 10 refl $
-        -- [a token; true; what plan owns; the other token; true; what pauses owns; _9; …; _0; …]
-        keep ! (6 ∷ 7 ∷ 8 ∷ 9 ∷ 10 ∷ 11 ∷ 12 ∷ 13 ∷ 14 ∷ 15 ∷ 16 ∷ 17 ∷ 18 ∷ 19 ∷ 20 ∷ 21 ∷ 22 ∷ 23 ∷ 24 ∷ 25 ∷ 0 ∷ 2 ∷ 3 ∷ 5 ∷ []) $
+        -- [a token; true; what plan owns; the other token; true; what pauses owns; _8; …; _0; …]
+        keep ! (6 ∷ 7 ∷ 8 ∷ 9 ∷ 10 ∷ 11 ∷ 12 ∷ 13 ∷ 14 ∷ 15 ∷ 16 ∷ 17 ∷ 18 ∷ 19 ∷ 20 ∷ 21 ∷ 22 ∷ 23 ∷ 0 ∷ 2 ∷ 3 ∷ 5 ∷ []) $
         again ! On Stand s (goes-on s going d b r u day-is sight-is went is₄) (stepped s going d b r u day-is sight-is went is₄ .1)))))
         (λ over.
         exec ! C Λ En part.t-3 (atRet En Post′) $
-        assigns ! (of-opd ! (load ! (from ! (stop !)) (look ! 6 refl))) (from ! (stop !)) (init ! 18 refl (walk-typed (s .w) (s .v) (s .is))) $
-        returns ! (look ! 18 refl) $ forget ! 4 refl $ forget ! 6 refl $ forget ! 8 refl $ forget ! 10 refl $ forget ! 12 refl $ forget ! 14 refl $ forget ! 16 refl $ forget ! 18 refl $
-        move ! (18 ∷ 19 ∷ []) $ free1 ! $ move ! (16 ∷ 17 ∷ []) $ free1 ! $ move ! (14 ∷ 15 ∷ []) $ free1 ! $ move ! (12 ∷ 13 ∷ []) $ free1 ! $ move ! (10 ∷ 11 ∷ []) $ free1 ! $ move ! (8 ∷ 9 ∷ []) $ free1 ! $ move ! (6 ∷ 7 ∷ []) $ free1 ! $ move ! (4 ∷ 5 ∷ []) $ free1 ! $ move ! (2 ∷ 3 ∷ []) $ free1 ! $ free1 ! $ free0 ! $
-        by ! (exits gc isₐ is₀ (s .w) (s .v) (ends choice (x .now) (a .classes) (y .now) w₀ (s .inv) (is-false (s .w .going) over)) (s .is))))
+        assigns ! (of-opd ! (load ! (from ! (stop !)) (look ! 6 refl))) (from ! (stop !)) (init ! 16 refl (walk-typed (s .w) (s .v) (s .is))) $
+        returns ! (look ! 16 refl) $ forget ! 4 refl $ forget ! 6 refl $ forget ! 8 refl $ forget ! 10 refl $ forget ! 12 refl $ forget ! 14 refl $ forget ! 16 refl $
+        move ! (16 ∷ 17 ∷ []) $ free1 ! $ move ! (14 ∷ 15 ∷ []) $ free1 ! $ move ! (12 ∷ 13 ∷ []) $ free1 ! $ move ! (10 ∷ 11 ∷ []) $ free1 ! $ move ! (8 ∷ 9 ∷ []) $ free1 ! $ move ! (6 ∷ 7 ∷ []) $ free1 ! $ move ! (4 ∷ 5 ∷ []) $ free1 ! $ move ! (2 ∷ 3 ∷ []) $ free1 ! $ free1 ! $ free0 ! $
+        by ! (exits gc is₀ (s .w) (s .v) (ends choice (x .now) (y .now) w₀ (s .inv) (is-false (s .w .going) over)) (s .is))))
 
   -- the MIR up to the loop
-  walk : (𝓣 : Tables 𝓤 H) → Callees 𝓤 H A mem run (𝓣 .C) → Room u8 (length (x .now)) → choice < 2 ^ 32 → Is Ak a (av ∷ []) → Room One (length (y .now)) → Is Wk w₀ (v₀ ∷ []) → Ready choice (x .now) (a .classes) w₀
-      → ent 𝓤 (onEntry 𝓤 H A f.signature κs (q, (q′, tt)) args at) (WpFn 𝓤 H (𝓣 .C) (𝓣 .Λ) code.function (xv ∷ vint w32 choice ∷ av ∷ yv ∷ v₀ ∷ []) Post′)
+  walk : (𝓣 : Tables 𝓤 H) → Callees 𝓤 H A mem run (𝓣 .C) → Room u8 (length (x .now)) → choice < 2 ^ 32 → Room One (length (y .now)) → Is Wk w₀ (v₀ ∷ []) → Ready choice (x .now) w₀
+      → ent 𝓤 (onEntry 𝓤 H A f.signature κs (q, (q′, tt)) args at) (WpFn 𝓤 H (𝓣 .C) (𝓣 .Λ) code.function (xv ∷ vint w32 choice ∷ yv ∷ v₀ ∷ []) Post′)
   unfolding start
-  walk 𝓣 known gx gc isₐ gy is₀ ready =
-      qed W ((‵ (flft κ q) ⊛ tok′) ∷ ‵ (owns (ShrSlice (named 0) κ u8 ∷ u32 ∷ Ak ∷ ShrSlice (named 1) κ′ One ∷ Wk ∷ []) args at) ∷ []) ∵ enter ! (𝓣 .C) (𝓣 .Λ) code.function (xv ∷ vint w32 choice ∷ av ∷ yv ∷ v₀ ∷ []) _ $
-      alloc1 ! (λ l₀. alloc1 ! (λ l₁. alloc1 ! (λ l₂. alloc1 ! (λ l₃. alloc1 ! (λ l₄. alloc1 ! (λ l₅. alloc1 ! (λ l₆. alloc1 ! (λ l₇. alloc1 ! (λ l₈. alloc1 ! (λ l₉. alloc0 ! $ params1 ! $
-      pass1 ! (init ! 16 refl (tt, (tt, (record { fits = gx .0 }, tt)))) $ pass1 ! (init ! 14 refl (tt, record { fits = gc })) $ pass1 ! (init ! 12 refl (asked-typed isₐ)) $ pass1 ! (init ! 10 refl (tt, (tt, (record { fits = gy .0 }, tt)))) $ pass1 ! (init ! 8 refl (walk-typed w₀ v₀ is₀)) $ pass0 ! $
+  walk 𝓣 known gx gc gy is₀ ready =
+      qed W ((‵ (flft κ q) ⊛ tok′) ∷ ‵ (owns (ShrSlice (named 0) κ u8 ∷ u32 ∷ ShrSlice (named 1) κ′ One ∷ Wk ∷ []) args at) ∷ []) ∵ enter ! (𝓣 .C) (𝓣 .Λ) code.function (xv ∷ vint w32 choice ∷ yv ∷ v₀ ∷ []) _ $
+      alloc1 ! (λ l₀. alloc1 ! (λ l₁. alloc1 ! (λ l₂. alloc1 ! (λ l₃. alloc1 ! (λ l₄. alloc1 ! (λ l₅. alloc1 ! (λ l₆. alloc1 ! (λ l₇. alloc1 ! (λ l₈. alloc0 ! $ params1 ! $
+      pass1 ! (init ! 14 refl (tt, (tt, (record { fits = gx .0 }, tt)))) $ pass1 ! (init ! 12 refl (tt, record { fits = gc })) $ pass1 ! (init ! 10 refl (tt, (tt, (record { fits = gy .0 }, tt)))) $ pass1 ! (init ! 8 refl (walk-typed w₀ v₀ is₀)) $ pass0 ! $
       assigns ! (of-opd ! (load ! (from ! (stop !)) (look ! 8 refl))) (from ! (stop !)) (init ! 6 refl (walk-typed w₀ v₀ is₀)) $
-      move ! (21 ∷ []) $ fsplit ! $ move ! (1 ∷ []) $ fsplit ! $ drop ! $ fsplit ! $ drop ! $ fsplit ! $ move ! (1 ∷ []) $ drop ! $
+      move ! (19 ∷ []) $ fsplit ! $ move ! (1 ∷ []) $ fsplit ! $ drop ! $ fsplit ! $ move ! (1 ∷ []) $ drop ! $
       -- [what pauses owns; what plan owns; _8; …; _0; …; the tokens]
-      move ! (22 ∷ []) $ split ! $ move ! (1 ∷ []) $ split ! $
+      move ! (20 ∷ []) $ split ! $ move ! (1 ∷ []) $ split ! $
       -- [the other token; true; a token; what pauses owns; what plan owns; _8; …; _0; …]
-      keep ! (5 ∷ 6 ∷ 7 ∷ 8 ∷ 9 ∷ 10 ∷ 11 ∷ 12 ∷ 13 ∷ 14 ∷ 15 ∷ 16 ∷ 17 ∷ 18 ∷ 19 ∷ 20 ∷ 21 ∷ 22 ∷ 23 ∷ 24 ∷ 2 ∷ 4 ∷ 0 ∷ 3 ∷ []) $
-      first ! $ blocks ! $ loops ! 𝓣 On on-wf (Stand 𝓣 known gc isₐ is₀ l₀ l₁ l₂ l₃ l₄ l₅ l₆ l₇ l₈ l₉) (turns 𝓣 known gc isₐ is₀ l₀ l₁ l₂ l₃ l₄ l₅ l₆ l₇ l₈ l₉) (start ready is₀)))))))))))
+      keep ! (5 ∷ 6 ∷ 7 ∷ 8 ∷ 9 ∷ 10 ∷ 11 ∷ 12 ∷ 13 ∷ 14 ∷ 15 ∷ 16 ∷ 17 ∷ 18 ∷ 19 ∷ 20 ∷ 21 ∷ 22 ∷ 2 ∷ 4 ∷ 0 ∷ 3 ∷ []) $
+      first ! $ blocks ! $ loops ! 𝓣 On on-wf (Stand 𝓣 known gc is₀ l₀ l₁ l₂ l₃ l₄ l₅ l₆ l₇ l₈) (turns 𝓣 known gc is₀ l₀ l₁ l₂ l₃ l₄ l₅ l₆ l₇ l₈) (start ready is₀))))))))))
 
 module _ {M : Type 1} (𝓤 : URA M) (H : Heap 𝓤) (A : Atoms 𝓤) (W : Given 𝓤 H A) (mem : Memory → SProp 𝓤) (run : Routine → Fun 𝓤) (𝓣 : Tables 𝓤 H) (known : Callees 𝓤 H A mem run (𝓣 .C)) where
   walks : Walks 𝓤 H A f.ended stayed (WpFn 𝓤 H (𝓣 .C) (𝓣 .Λ) code.function) (f.clauses 𝓤 H A mem run)
   walks = walked 𝓤 H A f.ended stayed (f.clauses 𝓤 H A mem run) (WpFn 𝓤 H (𝓣 .C) (𝓣 .Λ) code.function)
-      (λ κs. (slice-vals, (uint-vals w32, (LL.vals Q.the-type Q′.the-laws, (slice-vals, (LL.vals T.the-type T′.the-laws, tt))))))
-      (λ κs. (shr-slice-tells (named 0) (κs .0) u8, (uint-tells w32, (LL.tells Q.the-type Q′.the-laws, (shr-slice-tells (named 1) (κs .1 .0) One, (LL.tells T.the-type T′.the-laws, tt))))))
-      (λ κs qs bounds a g are. needs 𝓤 (Ready (a .1 .0) (a .0 .now) (a .1 .1 .0 .classes) (a .1 .1 .1 .1 .0)) _
-      (walk 𝓤 H A W mem run (κs .0) (κs .1 .0) (qs .0) (qs .1 .0) (a .0) (a .1 .0) (a .1 .1 .0) (LL.val Q.the-type Q′.the-laws (a .1 .1 .0)) (a .1 .1 .1 .0) (a .1 .1 .1 .1 .0) (LL.val T.the-type T′.the-laws (a .1 .1 .1 .1 .0)) 𝓣 known
-      (are .0 .0 .1) (are .1 .0 .1) (are .1 .1 .0) (are .1 .1 .1 .0 .0 .1) (are .1 .1 .1 .1 .0)))
+      (λ κs. (slice-vals, (uint-vals w32, (slice-vals, (LL.vals T.the-type T′.the-laws, tt)))))
+      (λ κs. (shr-slice-tells (named 0) (κs .0) u8, (uint-tells w32, (shr-slice-tells (named 1) (κs .1 .0) One, (LL.tells T.the-type T′.the-laws, tt)))))
+      (λ κs qs bounds a g are. needs 𝓤 (Ready (a .1 .0) (a .0 .now) (a .1 .1 .1 .0)) _
+      (walk 𝓤 H A W mem run (κs .0) (κs .1 .0) (qs .0) (qs .1 .0) (a .0) (a .1 .0) (a .1 .1 .0) (a .1 .1 .1 .0) (LL.val T.the-type T′.the-laws (a .1 .1 .1 .0)) 𝓣 known
+      (are .0 .0 .1) (are .1 .0 .1) (are .1 .1 .0 .0 .1) (are .1 .1 .1 .0)))
 
   meets : Meets 𝓤 H A f.signature (WpFn 𝓤 H (𝓣 .C) (𝓣 .Λ) code.function) (f.spec 𝓤 H A mem run)
   meets = walk-meets 𝓤 H A f.ended stayed W
-      (goes-none-slice 𝓤 H A W 2 (0 ∷ []) tt (plain (λ _. u8)) yes, (goes-none 𝓤 H A W 2 (λ _. u32) yes (λ κs x f. refl), (goes-none 𝓤 H A W 2 (λ _. Ak) yes (λ κs x f. refl), (goes-none-slice 𝓤 H A W 2 (1 ∷ []) tt (plain (λ _. One)) yes, (goes-none 𝓤 H A W 2 (λ _. Wk) yes (λ κs x f. refl), tt)))))
+      (goes-none-slice 𝓤 H A W 2 (0 ∷ []) tt (plain (λ _. u8)) yes, (goes-none 𝓤 H A W 2 (λ _. u32) yes (λ κs x f. refl), (goes-none-slice 𝓤 H A W 2 (1 ∷ []) tt (plain (λ _. One)) yes, (goes-none 𝓤 H A W 2 (λ _. Wk) yes (λ κs x f. refl), tt))))
       (f.clauses 𝓤 H A mem run) (WpFn 𝓤 H (𝓣 .C) (𝓣 .Λ) code.function) (WpFn-mono 𝓤 H (W .laws) 𝓣 code.function) walks
 
 pub walked-spec : {M : Type 1} → stated.statement M
@@ -391,5 +380,5 @@ walked-spec 𝓤 H 𝓜 𝓖 𝓡 =
       going-met = cited 𝓤 H (IsGoing 𝓤 H (𝓖 .A) (𝓜 .mem) (𝓡 .run)) 𝓜 𝓡 code.env #supply·walk·is-going going-def.routine code.calls-supply·walk·is-going (going-thm.met 𝓤 H 𝓜 𝓖 𝓡);
       day-met = cited 𝓤 H (DayOf 𝓤 H (𝓖 .A) (𝓜 .mem) (𝓡 .run)) 𝓜 𝓡 code.env #supply·walk·day-of day-def.routine code.calls-supply·walk·day-of (day-thm.met 𝓤 H 𝓜 𝓖 𝓡);
       sight-met = cited 𝓤 H (SightFrom 𝓤 H (𝓖 .A) (𝓜 .mem) (𝓡 .run)) 𝓜 𝓡 code.env #pause·lent·sight-from sight-def.routine code.calls-pause·sight-from (sight-thm.met 𝓤 H 𝓜 𝓖 𝓡);
-      stretch-met = cited 𝓤 H (Stretch 𝓤 H (𝓖 .A) (𝓜 .mem) (𝓡 .run)) 𝓜 𝓡 code.env #supply·walk·stretch stretch-def.routine code.calls-supply·walk·stretch (stretch-thm.met 𝓤 H 𝓜 𝓖 𝓡);
+      step-met = cited 𝓤 H (Step 𝓤 H (𝓖 .A) (𝓜 .mem) (𝓡 .run)) 𝓜 𝓡 code.env #supply·walk·step step-def.routine code.calls-supply·walk·step (step-thm.met 𝓤 H 𝓜 𝓖 𝓡);
     })

@@ -3,10 +3,10 @@ use Rattle.supply.proofs.rounds.need_in_round.Statement.{statement}
 use Rattle.supply.proofs.rounds.need_in_round.Tie as tie
 
 returns : tie.Need-returns
-returns c = c .before .before .before .pre .2 (c .if1 .taken)
+returns c = c .before .before .before .pre .day (c .if1 .taken)
 
 round-need-requires : tie.Need-round-need-requires
-round-need-requires c κs = search needs
+round-need-requires c κs = let p = c .before .before .before .pre in (p .small, p .all)
 
 returns-2 : tie.Need-returns-2
 returns-2 c = search needs

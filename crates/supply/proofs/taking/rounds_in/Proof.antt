@@ -1,6 +1,4 @@
-use Prim.Native.Nat.{_/_}
 use mathlib.Core.Logic.{inl, inr, ⊎-elim}
-use mathlib.Core.Path.{refl}
 use native.Mathlib.Nat.{mul-zero}
 use native.Mathlib.Omega.{arith}
 use borrow.Author.Needs.{needs}
@@ -13,11 +11,11 @@ use Rattle.supply.proofs.taking.rounds_in.Tie as tie
 returns : tie.Need-returns
 returns c = most-none _ _ _ _ (⊎-elim (λ t. inl (ltb-true _ _ t)) (λ t. inr (ltb-true _ _ t)) (or-either _ _ (c .if1 .taken)))
 
-div-rounds : tie.Need-div-rounds
-div-rounds c = search needs
+whole-rounds-requires : tie.Need-whole-rounds-requires
+whole-rounds-requires c κs = search needs
 
 returns-2 : tie.Need-returns-2
-returns-2 c = most-room _ _ _ _ (c .before .before .pre) refl (rw (c .if2 .taken) (omega (arith, mul-zero (c .before .before .args .room / c .before .before .args .interval))))
+returns-2 c = most-room _ _ _ _ (c .before .before .before .pre) (c .before .whole-rounds .ensures) (rw (c .if2 .taken) (omega (arith, mul-zero (c .before .whole-rounds .result))))
 
 div-lesser : tie.Need-div-lesser
 div-lesser c = search needs
@@ -26,8 +24,8 @@ lesser-requires : tie.Need-lesser-requires
 lesser-requires c κs = search needs
 
 returns-3 : tie.Need-returns-3
-returns-3 c = most-least _ _ _ _ (c .before .before .before .pre) (omega (arith, c .before .if2 .left)) (c .lesser .ensures)
+returns-3 c = most-least _ _ _ _ (c .before .before .before .before .pre) (omega (arith, c .before .if2 .left)) (rw (c .before .before .whole-rounds .ensures) at (c .lesser .ensures))
 
 pub rounds-in-spec : {M : Type 1} → statement M
 rounds-in-spec =
-    tie.close (tie.spec returns div-rounds returns-2 div-lesser lesser-requires returns-3)
+    tie.close (tie.spec returns whole-rounds-requires returns-2 div-lesser lesser-requires returns-3)
