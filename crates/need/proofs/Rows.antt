@@ -81,10 +81,6 @@ module _ (choice : ℕ) where
       by-row (λ (c : Choice). c .counts x ≡ true → upperOf x ≡ c .amount x) (λ t. absurd (true-not-false t f)) (λ h. refl) (λ h. refl) (λ h. refl)
       (λ h. absurd (true-not-false h refl))
 
-  -- no period of class 0, which is empty or none at all, sets a stop day
-  pub empty-stops : choiceOf choice .stops 0 ≡ false
-  empty-stops = by-row (λ (c : Choice). c .stops 0 ≡ false) (λ t. refl) refl refl refl refl
-
   -- what a dose counts is its low or its upper amount, or nothing
   pub chosen-in : (x : Dose) (most : ℕ) → x .low ≤ most → upperOf x ≤ most → chosen choice x ≤ most
   chosen-in x most l u =

@@ -1,2 +1,3 @@
 -- Document 01, "Supply": what a day needs.
 pub mod Need
+pub mod Telling

@@ -32,7 +32,7 @@ pub fn amount(choice: u32, d: Dose) -> u64
 }
 
 // Does the last day of a period of this class count for the stop day?
-pub fn is_stopping(choice: u32, class: u8) -> bool
+pub(crate) fn is_stopping(choice: u32, class: u8) -> bool
     ensures { λ r. ⌜ r ≡ choiceOf choice .stops class ⌝ }
 {
     if (choice == 1) | (choice == 2) {

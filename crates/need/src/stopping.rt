@@ -1,21 +1,15 @@
-// The day on which a choice stops. The classes come with the verdict, so that no mark is read again.
+// The day on which a choice stops. The periods that count come with the verdict's classes, so that no mark is read again.
 use crate::Stop;
-use crate::choice::is_stopping;
+use crate::bits::is_odd;
+use crate::bits::least32;
 use plan::block_of;
 use plan::is_period;
 use plan::last_of;
 ghost use mathlib.Core.Path.{_≡_};
-ghost use Prim.Native.Nat.{max, min};
+ghost use Prim.Native.Nat.{max};
 ghost use mathlib.Core.Bool.{_&&_};
-ghost use lib.ListN.{getD};
 ghost use Rattle.plan.specs.Periods.{isPeriod};
-ghost use Rattle.need.specs.Need.{choiceOf, stopDayBy, hasStopBy};
-
-fn least32(n: usize) -> u8
-    ensures { λ r. ⌜ r ≡ min n 32 ⌝ }
-{
-    if n < 32 { n as u8 } else { 32 }
-}
+ghost use Rattle.need.specs.Telling.{isSet, anyTold, toldDay};
 
 fn later(x: u32, y: u32) -> u32
     ensures { λ r. ⌜ r ≡ max x y ⌝ }
@@ -23,25 +17,28 @@ fn later(x: u32, y: u32) -> u32
     if x < y { y } else { x }
 }
 
-// Is a period of this class at block b one that counts for the stop day?
-fn is_counted(plan: &[u8], choice: u32, class: u8, b: u8) -> bool
-    ensures { λ r. ⌜ r ≡ (isPeriod (now (plan .entry)) b && choiceOf choice .stops class) ⌝ }
+// Does a period begin at block b, whose bit is the lowest, and does it count?
+fn is_counted(plan: &[u8], bits: u32, b: u8) -> bool
+    ensures { λ r. ⌜ r ≡ (isPeriod (now (plan .entry)) b && isSet bits 0) ⌝ }
 {
     if is_period(plan, b) {
-        return is_stopping(choice, class);
+        return is_odd(bits);
     }
     false
 }
 
-// The last day of any period that counts, and whether there is one. `classes` has the class of the period at each block.
-pub fn stop_of(plan: &[u8], choice: u32, classes: [u8; 32]) -> Stop
-    ensures { λ r. ⌜ (r .any ≡ hasStopBy choice (λ b. getD classes b 0) (now (plan .entry))) × (r .day ≡ stopDayBy choice (λ b. getD classes b 0) (now (plan .entry))) ⌝ }
+// The last day of any period that counts, and whether there is one. `chosen` has a bit for each block.
+pub fn stop_of(plan: &[u8], chosen: u32) -> Stop
+    ensures { λ r. ⌜ (r .any ≡ anyTold chosen (now (plan .entry))) × (r .day ≡ toldDay chosen (now (plan .entry))) ⌝ }
 {
     let n = least32(plan.len() / 512);
+    let mut bits = chosen;
     let mut any = false;
     let mut day: u32 = 0;
     for b in 0..n {
-        if !is_counted(plan, choice, classes[b as usize], b) {
+        let counts = is_counted(plan, bits, b);
+        bits = bits / 2;
+        if !counts {
             continue;
         }
         any = true;

@@ -8,19 +8,14 @@ pub use lent::are_out;
 pub use lent::pause_at;
 pub use lent::paused;
 pub use lent::sight_from;
-pub use packed::unpack;
+pub use packed::packed_count;
+pub use packed::packed_records;
 pub use test::is_in;
 pub use test::is_out;
 
 pub struct Pause {
     pub first: u32,
     pub last: u32,
-}
-
-// What the C call lends: how many records there are, at most 32, and an array that begins with them.
-pub struct Pauses {
-    pub count: usize,
-    pub at: [Pause; 32],
 }
 
 // What a list of pauses says from a day on: whether the day is paused, and up to which day that stays so.

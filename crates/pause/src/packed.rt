@@ -1,9 +1,10 @@
 // The packed pauses of the C call, as the records that it lends.
 use crate::Pause;
-use crate::Pauses;
 use crate::test::NO_DAY;
+ghost use mathlib.Core.Bool.{not, _||_};
 ghost use mathlib.Core.Path.{_≡_};
-ghost use Prim.Native.Nat.{_<_, min};
+ghost use Prim.Native.Nat.{_/_, _%_, _<_, min};
+ghost use lib.Dec.{eqb, ltb};
 ghost use lib.ListN.{length, getD, set};
 ghost use Rattle.pause.specs.Pauses.{noDay, firstOf, pausesIn, lentOf};
 
@@ -49,19 +50,30 @@ fn records(s: &[u8]) -> [Pause; 32]
     at
 }
 
-// What the C call's bytes lend: their pauses, or one that is out.
-pub fn unpack(s: &[u8]) -> Pauses
-    ensures { λ r. ⌜ (r .count ≡ length (lentOf (now (s .entry)))) × (r .at ≡ firstOf 32 (lentOf (now (s .entry)))) ⌝ }
+// Whether the bytes are no list to lend: no whole number of pauses, or more than 32.
+fn is_no_list(s: &[u8]) -> bool
+    ensures { λ r. ⌜ r ≡ (not (eqb (length (now (s .entry)) % 8) 0) || ltb 32 (length (now (s .entry)) / 8)) ⌝ }
 {
-    let count = s.len() / 8;
-    if !(s.len() % 8 == 0) | (32 < count) {
-        return Pauses {
-            count: 1,
-            at: [NO_DAY; 32],
-        };
+    !(s.len() % 8 == 0) | (32 < s.len() / 8)
+}
+
+// How many records the C call's bytes lend, at most 32: their pauses, or one that is out. The count and the array come from two
+// functions: a struct of both is copied once more on its way to the lender, and a call without pauses is short enough to feel it.
+pub fn packed_count(s: &[u8]) -> usize
+    ensures { λ r. ⌜ r ≡ length (lentOf (now (s .entry))) ⌝ }
+{
+    if is_no_list(s) {
+        return 1;
     }
-    Pauses {
-        count,
-        at: records(s),
+    s.len() / 8
+}
+
+// The records that they lend, at the front of an array.
+pub fn packed_records(s: &[u8]) -> [Pause; 32]
+    ensures { λ r. ⌜ r ≡ firstOf 32 (lentOf (now (s .entry))) ⌝ }
+{
+    if is_no_list(s) {
+        return [NO_DAY; 32];
     }
+    records(s)
 }

@@ -15,7 +15,6 @@ once =
       opened = λ d n x y u v i. record { dose = (u .0 ∙ sym (v .0)) i; spare = (u .1 ∙ sym (v .1)) i };
       judged = λ rule class x y u v i. record { rule = (u .0 ∙ sym (v .0)) i; class = (u .1 ∙ sym (v .1)) i };
       classes = λ a cs x y u v i. record { answer = (u .0 ∙ sym (v .0)) i; classes = (u .1 ∙ sym (v .1)) i };
-      pauses = λ n at x y u v i. record { count = (u .0 ∙ sym (v .0)) i; at = (u .1 ∙ sym (v .1)) i };
       stop = λ any day x y u v i. record { any = (u .0 ∙ sym (v .0)) i; day = (u .1 ∙ sym (v .1)) i };
       calls = λ r c x y s t u v. let e = called-once u v in (ap (λ (a : Answered). a .refusal) (e .0), e .1);
       releases = λ r c x y s t u v.

@@ -10,8 +10,6 @@ use Rattle.day.specs.declared.Date.{Date}
 use Rattle.day.specs.declared.Day.{Day}
 use Rattle.day.specs.declared.Shown.{Shown}
 use Rattle.need.specs.declared.Stop.{Stop}
-use Rattle.pause.specs.declared.Pause.{Pause}
-use Rattle.pause.specs.declared.Pauses.{Pauses}
 use Rattle.period.specs.declared.Judged.{Judged}
 use Rattle.plan.specs.declared.Dose.{Dose}
 use Rattle.plan.specs.declared.Opened.{Opened}
@@ -37,8 +35,6 @@ pub record Once : Type 0 where
   pub judged : (rule class : ℕ) (x y : Judged) → (x .rule ≡ rule) × (x .class ≡ class) → (y .rule ≡ rule) × (y .class ≡ class) → x ≡ y
   -- verdict: `verdict_with_classes` says answer and classes
   pub classes : (a : Answer) (cs : List ℕ) (x y : Classes) → (x .answer ≡ a) × (x .classes ≡ cs) → (y .answer ≡ a) × (y .classes ≡ cs) → x ≡ y
-  -- pause: `unpack` says count and pauses
-  pub pauses : (n : ℕ) (at : List Pause) (x y : Pauses) → (x .count ≡ n) × (x .at ≡ at) → (y .count ≡ n) × (y .at ≡ at) → x ≡ y
   -- need: `stop_of` says whether there is a stop day, and which
   pub stop : (any : Bool) (day : ℕ) (x y : Stop) → (x .any ≡ any) × (x .day ≡ day) → (y .any ≡ any) × (y .day ≡ day) → x ≡ y
   -- register: `clear`, `submit`, `sign` and `drop_plan`; `release`; `state_of`

@@ -8,7 +8,9 @@ use native.Mathlib.Omega.{arith}
 use lib.Dec.{eqb, ltb}
 use borrow.Author.Tests.{eq-eqb, ne-eqb, eqb-true, eqb-false}
 use Rattle.below.proofs.Tests.{bool-cases, true-not-false}
+use Rattle.need.proofs.Telling.{tells}
 use Rattle.need.specs.Need.{stopDay, hasStop}
+use Rattle.need.specs.Telling.{countedOf}
 use Rattle.pause.specs.Pauses.{areOut}
 use Rattle.pause.specs.declared.Pause.{Pause}
 use Rattle.refusal.specs.Refusals.{alone}
@@ -47,7 +49,7 @@ module _ {p : List ℕ} {start pack : ℕ} {out : Bool} where
     unfolding answeredBy
     for-broken v e h =
         record {
-          judged = record { accepted = λ f. absurd (true-not-false e f); classed = λ f. absurd (true-not-false e f); start-in = λ f. absurd (true-not-false e f) };
+          judged = record { accepted = λ f. absurd (true-not-false e f); tells = λ f. absurd (true-not-false e f); start-in = λ f. absurd (true-not-false e f) };
           start-is = s;
           all = asked-all a u w;
           supplies = λ choice ps. rw (v, e, h);
@@ -55,14 +57,14 @@ module _ {p : List ℕ} {start pack : ℕ} {out : Bool} where
         }
 
     -- it is
-    module _ {n number : ℕ} (v : verdictOf p ≡ Accepted n) (e : number ≡ askedBy start pack out 0) (h : a .refusal ≡ alone number) (c : a .classes ≡ classesBy (verdictOf p) p) where
+    module _ {n number : ℕ} (v : verdictOf p ≡ Accepted n) (e : number ≡ askedBy start pack out 0) (h : a .refusal ≡ alone number) {cs : List ℕ} (c : cs ≡ classesBy (verdictOf p) p) (m : a .counted ≡ countedOf cs p) where
       -- one of 20 to 22 is given
       pub for-refused : (number ≡ 0 → ⊥) → a .refused ≡ true → ForSupply p start pack out a
       unfolding answeredBy judgedOf
       for-refused g t =
           let given : askedBy start pack out 0 ≡ 0 → ⊥ = λ z. g (e ∙ z) in
           record {
-            judged = record { accepted = λ f. absurd (true-not-false t f); classed = λ f. absurd (true-not-false t f); start-in = λ f. absurd (true-not-false t f) };
+            judged = record { accepted = λ f. absurd (true-not-false t f); tells = λ f. absurd (true-not-false t f); start-in = λ f. absurd (true-not-false t f) };
             start-is = s;
             all = asked-all a u w;
             supplies =
@@ -80,7 +82,7 @@ module _ {p : List ℕ} {start pack : ℕ} {out : Bool} where
             judged =
                 record {
                   accepted = λ f. (n, v);
-                  classed = λ f. accepted-classed p (a .classes) (orderly p (accepted-only p v) 1 .few) (rw v at c);
+                  tells = λ f. tells (accepted-classed p cs (orderly p (accepted-only p v) 1 .few) (rw v at c)) m;
                   start-in = λ f. rw s (fair start pack out 0 none .0 .start-in);
                 };
             start-is = s;
@@ -103,7 +105,7 @@ module _ {p : List ℕ} {start pack : ℕ} {out : Bool} where
       }
 
   -- the same but for the choices that are asked for
-  pub dates-asked : {a : Asked} (b : Asked) → ForSupply p start pack out a → b .refused ≡ a .refused → b .refusal ≡ a .refusal → b .start ≡ a .start → b .pack ≡ a .pack → b .classes ≡ a .classes →
+  pub dates-asked : {a : Asked} (b : Asked) → ForSupply p start pack out a → b .refused ≡ a .refused → b .refusal ≡ a .refusal → b .start ≡ a .start → b .pack ≡ a .pack → b .counted ≡ a .counted →
       b .upper ≡ isRanging start p → b .needed ≡ isNeeded start p → ForDates p start pack out b
   unfolding answeredBy
   dates-asked {a} b f r q s k c u w =
@@ -111,7 +113,7 @@ module _ {p : List ℕ} {start pack : ℕ} {out : Bool} where
         judged =
             record {
               accepted = λ g. f .judged .accepted (sym r ∙ g);
-              classed = λ g. rw c (f .judged .classed (sym r ∙ g));
+              tells = λ g. rw c (f .judged .tells (sym r ∙ g));
               start-in = λ g. rw s (f .judged .start-in (sym r ∙ g));
             };
         upper-is = λ g. u;

@@ -7,12 +7,12 @@ use native.Mathlib.Omega.{arith}
 use borrow.Author.Tests.{eq-eqb, ne-eqb}
 use Rattle.below.proofs.Tests.{true-not-false}
 use Rattle.need.specs.Need.{stopDay, hasStop}
+use Rattle.need.specs.Telling.{Tells}
 use Rattle.refusal.specs.Refusals.{alone}
 use Rattle.refusal.specs.declared.Refusal.{Refusal}
 use Rattle.verdict.proofs.Exactly.{accepted-only}
 use Rattle.supply.specs.Supply.{ownBy}
 use Rattle.supply.specs.code.Asking.{isAsked, answeredBy, Judged, Begun}
-use Rattle.supply.specs.code.Choosing.{Marks}
 use Rattle.supply.specs.code.Walking.{Ready}
 use Rattle.supply.specs.declared.ask.Asked.{Asked}
 use Rattle.supply.specs.declared.Supply.the-variants.{Refused}
@@ -33,7 +33,7 @@ pub record Fresh (p : List ℕ) (a : Asked) (choice : ℕ) (w : Walk) : Type 0 w
   pub day-is : w .day ≡ a .start
   pub count-is : w .count ≡ 0
   pub rest-is : w .rest ≡ a .pack
-  pub marks : Marks choice p (w .chosen)
+  pub tells : Tells choice p (w .chosen)
 
 never : {p : List ℕ} {choice : ℕ} {w : Walk} {r : Refusal} → RefusedBy r w → Ready choice p w
 never (t, g, e) =
@@ -100,7 +100,7 @@ module _ {p : List ℕ} {a : Asked} {choice : ℕ} {w : Walk} where
                               within = omega (arith, x .day-is, x .stop-is, u .stop-in);
                               dated = omega (arith, x .stop-is, stop-day-in choice p ok);
                             };
-                        marks = x .marks;
+                        tells = x .tells;
                         known = λ h. absurd (omega (arith, x .count-is));
                       };
                 };

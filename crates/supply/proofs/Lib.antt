@@ -8,7 +8,6 @@ pub mod Placing
 pub mod Standing
 pub mod Accepted
 pub mod WholeRounds
-pub mod Choosing
 pub mod Clearing
 pub mod Surveying
 pub mod Refusing

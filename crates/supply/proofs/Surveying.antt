@@ -15,9 +15,8 @@ use Rattle.doses.specs.Doses.{covers}
 use Rattle.plan.specs.Fields.{firstOf, lastOf}
 use Rattle.plan.specs.Periods.{blocksOf, blockAt, isPeriod}
 use Rattle.supply.specs.Steps.{isChosen, hasOther, isAlone}
-use Rattle.supply.specs.code.Choosing.{Flag}
 use Rattle.supply.specs.code.Standing.{Orderly, IsAt, Next, InBoth, Reach, Rounded, roundsOf, roundsOn, Steady}
-use Rattle.supply.specs.code.Surveying.{FirstTwo, Clear, Surveyed, withLater, withPeriod}
+use Rattle.supply.specs.code.Surveying.{Flag, FirstTwo, Clear, Surveyed, withLater, withPeriod}
 use Rattle.supply.specs.declared.place.Candidate.{Candidate}
 use Rattle.supply.specs.declared.rounds.Round.{Round}
 use Rattle.supply.specs.declared.survey.Survey.{Survey}

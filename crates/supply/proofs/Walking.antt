@@ -9,6 +9,7 @@ use native.Mathlib.Omega.{arith}
 use Rattle.below.proofs.Tests.{bool-cases, true-not-false, le-or-lt}
 use Rattle.day.specs.Days.{openMark}
 use Rattle.need.specs.Need.{needOn}
+use Rattle.need.specs.Telling.{Tells}
 use Rattle.pause.proofs.InSight.{sight-reached, sight-steady, sight-ends}
 use Rattle.pause.specs.Sight.{sightOf}
 use Rattle.pause.specs.declared.Pause.{Pause}
@@ -17,7 +18,6 @@ use Rattle.refusal.specs.declared.Refusal.{Refusal}
 use Rattle.supply.specs.Covered.{summed}
 use Rattle.supply.specs.Steps.{State, daysFrom, after, stepsOf, lastingBy}
 use Rattle.supply.specs.Supply.{lastingOf}
-use Rattle.supply.specs.code.Choosing.{Marks}
 use Rattle.supply.specs.code.Asking.{answeredBy, Begun}
 use Rattle.supply.specs.code.Walking.{Looking, Going, Able, Stood, Ready, Seen, Advanced, stateOf, outcomeOf, left, Onward, Went, lastingAt, Ended, endedOf}
 use Rattle.supply.specs.declared.Lasting.{Lasting}
@@ -55,7 +55,7 @@ able g k =
     }
 
 -- ---- one step
-module _ (choice : ℕ) (p : List ℕ) (s : Sight) (w r : Walk) (marks : Marks choice p (w .chosen)) (g : Looking choice p w) where
+module _ (choice : ℕ) (p : List ℕ) (s : Sight) (w r : Walk) (tells : Tells choice p (w .chosen)) (g : Looking choice p w) where
   there : w .start + (w .day - w .start) ≡ w .day
   there = omega (arith, g .counted)
 
@@ -144,7 +144,7 @@ module _ (choice : ℕ) (p : List ℕ) (s : Sight) (w r : Walk) (marks : Marks c
                       within = omega (arith, a .day-is, a .stop-is);
                       dated = omega (arith, a .stop-is, g .dated);
                     };
-                marks = rw (a .chosen-is) marks;
+                tells = rw (a .chosen-is) tells;
                 known = λ h m. rw (a .day-is) (a .goes l .1 (rw (a .day-is) at m));
               };
           onward = λ ps seen. let y = of ps seen in onward ps (y .0) (y .1);

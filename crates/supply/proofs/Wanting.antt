@@ -1,4 +1,4 @@
--- Which dates a set has: by the classes that come with the verdict, and by where choice 4 stops. Assumes nothing.
+-- Which dates a set has: by the periods that are told, and by where choice 4 stops. Assumes nothing.
 use Prim.Native.Nat.{ℕ, zero, suc, _≤_, _<_}
 use mathlib.Core.Bool.{Bool, true, false, cond, _&&_}
 use mathlib.Core.List.{List}
@@ -6,16 +6,15 @@ use mathlib.Core.Logic.{_⊎_, inl, inr, ⊎-elim}
 use mathlib.Core.Path.{_≡_}
 use native.Mathlib.Omega.{arith}
 use lib.Dec.{leb}
-use lib.ListN.{getD}
 use borrow.Author.Tests.{leb-true, le-leb}
 use Rattle.below.proofs.Search.{any-hit, any-some}
 use Rattle.below.proofs.Tests.{bool-cases, bool-iff, and-both, both-and, le-or-lt}
 use Rattle.below.proofs.Total.{largest-bounds}
 use Rattle.below.specs.Below.{anyBelow, largestBelow}
 use Rattle.need.specs.Need.{fixedOrMixed, choiceOf, stopsAt, stopDayBy, hasStopBy, stopDay, hasStop}
+use Rattle.need.specs.Telling.{isSet, Tells}
 use Rattle.plan.specs.Fields.{lastOf}
 use Rattle.plan.specs.Periods.{blocksOf, blockAt, isPeriod, classOf}
-use Rattle.verdict.specs.code.Ready.{Classed}
 use Rattle.supply.specs.Dates.{endsFrom, hasInterval, isNeeded}
 use Rattle.supply.specs.code.Asking.{rangesWith}
 
@@ -66,7 +65,8 @@ pub needed-stop : (start : ℕ) (p : List ℕ) → isNeeded start p ≡ (hasStop
 unfolding isNeeded hasStopBy stopDayBy choiceOf
 needed-stop start p = some-ends (stopsAt 4 (classOf p) p) (λ b. lastOf (blockAt p b)) start (blocksOf p)
 
--- the classes that come with the verdict are those of the plan's periods
-pub ranges-classed : (start : ℕ) {p cs : List ℕ} → Classed p cs → (b : ℕ) → b < blocksOf p → rangesWith start (getD cs b 0) p b ≡ (endsFrom fixedOrMixed start p b && hasInterval p b)
-ranges-classed start {p} k b l =
-    ⊎-elim (λ (t : isPeriod p b ≡ true). rw (k .entry b l t)) (λ (t : isPeriod p b ≡ false). rw t) (bool-cases (isPeriod p b))
+-- the bits of choice 1 tell which of the plan's periods are fixed or mixed
+pub ranges-told : (start : ℕ) {p : List ℕ} {bits : ℕ} → Tells 1 p bits → (b : ℕ) → b < blocksOf p → rangesWith start (isSet bits b) p b ≡ (endsFrom fixedOrMixed start p b && hasInterval p b)
+unfolding choiceOf
+ranges-told start {p} k b l =
+    ⊎-elim (λ (t : isPeriod p b ≡ true). rw (k .each b l t)) (λ (t : isPeriod p b ≡ false). rw t) (bool-cases (isPeriod p b))

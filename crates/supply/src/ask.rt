@@ -2,6 +2,8 @@
 use crate::wanted::is_needed;
 use crate::wanted::is_ranging;
 use day::Day;
+use need::Counted;
+use need::counted_by;
 use refusal::Refusal;
 use verdict::Answer;
 use verdict::refusal_of;
@@ -13,17 +15,24 @@ ghost use Rattle.supply.specs.code.Asking.{ForSupply, ForDates};
 // The largest pack.
 const PACK_LIMIT: u64 = 1000000000000;
 
-// Refused, whatever the choice; or a start day and a pack, with the classes of the plan's periods. A set of dates does not ask for every
-// choice: for 2 only where `upper` says so, for 3 and 4 only where `needed` does.
+// Refused, whatever the choice; or a start day and a pack, and which of the plan's periods count by each choice. A set of dates does not
+// ask for every choice: for 2 only where `upper` says so, for 3 and 4 only where `needed` does.
 pub(crate) struct Asked {
-    pub classes: [u8; 32],
     pub refused: bool,
     pub upper: bool,
     pub needed: bool,
     pub refusal: Refusal,
     pub start: u32,
+    pub counted: Counted,
     pub pack: u64,
 }
+
+// Of a plan that is refused nothing is told.
+const NO_PERIODS: Counted = Counted {
+    fixed: 0,
+    dosed: 0,
+    needed: 0,
+};
 
 // The first of 20 to 22, 0 where there is none. `out` says that 21 is due, in its turn.
 fn asked_by(start: u32, pack: u64, out: bool) -> u8
@@ -47,7 +56,6 @@ pub(crate) fn ask(plan: &[u8], start: u32, pack: u64, out: bool) -> Asked
 {
     let judged = verdict_with_classes(plan);
     let answer = judged.answer;
-    let classes = judged.classes;
     let Answer::Accepted(_) = answer else {
         return Asked {
             refused: true,
@@ -55,10 +63,11 @@ pub(crate) fn ask(plan: &[u8], start: u32, pack: u64, out: bool) -> Asked
             needed: true,
             refusal: refusal_of(answer),
             start,
+            counted: NO_PERIODS,
             pack,
-            classes,
         };
     };
+    let classes = judged.classes;
     let number = asked_by(start, pack, out);
     Asked {
         refused: number != 0,
@@ -66,8 +75,8 @@ pub(crate) fn ask(plan: &[u8], start: u32, pack: u64, out: bool) -> Asked
         needed: true,
         refusal: Refusal::alone(number),
         start,
+        counted: counted_by(plan, classes),
         pack,
-        classes,
     }
 }
 
@@ -79,8 +88,8 @@ pub(crate) fn ask_dates(plan: &[u8], start: u32, pack: u64, out: bool) -> Asked
     if a.refused {
         return a;
     }
-    let classes = a.classes;
-    a.upper = is_ranging(plan, start, classes);
-    a.needed = is_needed(plan, start, classes);
+    let counted = a.counted;
+    a.upper = is_ranging(plan, start, counted.fixed);
+    a.needed = is_needed(plan, start, counted.needed);
     a
 }

@@ -1,9 +1,9 @@
 // Where the walk by a choice begins: the choice's own refusals, 23 and 24, and else the first day.
 use crate::ask::Asked;
-use crate::bits::chosen_by;
 use crate::today::NO_DAY;
 use crate::walk::Walk;
 use need::Stop;
+use need::bits_by;
 use need::is_choice;
 use need::stop_of;
 use refusal::Refusal;
@@ -67,8 +67,8 @@ pub(crate) fn begin(plan: &[u8], asked: Asked, choice: u32) -> Walk
     if !is_asked(asked, choice) {
         return refused(Refusal::alone(23));
     }
-    let classes = asked.classes;
-    let stop = stop_of(plan, choice, classes);
+    let chosen = bits_by(asked.counted, choice);
+    let stop = stop_of(plan, chosen);
     let number = own_by(asked.start, choice, stop);
     if number != 0 {
         return refused(Refusal::alone(number));
@@ -77,7 +77,7 @@ pub(crate) fn begin(plan: &[u8], asked: Asked, choice: u32) -> Walk
         refused: false,
         refusal: Refusal::alone(0),
         going: true,
-        chosen: chosen_by(choice, classes, (plan.len() / 512) as u8),
+        chosen,
         start: asked.start,
         stop: stop.day,
         day: asked.start,

@@ -1,7 +1,6 @@
 // Supply, by document 01: how far a pack lasts, in whole rounds where it can be (document 02, W12); and the set of dates of W1.
 mod ask;
 mod begin;
-mod bits;
 mod lent;
 mod packed;
 mod place;

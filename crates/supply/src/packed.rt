@@ -4,7 +4,8 @@ use crate::Supply;
 use crate::lent::dates_of;
 use crate::lent::supply_of;
 use pause::Pause;
-use pause::unpack;
+use pause::packed_count;
+use pause::packed_records;
 ghost use mathlib.Core.Path.{_≡_};
 ghost use Prim.Native.Nat.{_≤_};
 ghost use lib.ListN.{take};
@@ -32,16 +33,25 @@ fn dates_lent(plan: &[u8], start: u32, pack: u64, at: [Pause; 32], n: usize) -> 
 pub fn supply_packed(plan: &[u8], start: u32, pack: u64, choice: u32, pauses: &[u8]) -> Supply
     ensures { λ r. ⌜ r ≡ packedSupplyOf (now (plan .entry)) start pack choice (now (pauses .entry)) ⌝ }
 {
-    let kept = unpack(pauses);
-    let at = kept.at;
-    supply_lent(plan, start, pack, choice, at, kept.count)
+    supply_lent(
+        plan,
+        start,
+        pack,
+        choice,
+        packed_records(pauses),
+        packed_count(pauses),
+    )
 }
 
 // The set of dates likewise.
 pub fn dates_packed(plan: &[u8], start: u32, pack: u64, pauses: &[u8]) -> DateSet
     ensures { λ r. ⌜ r ≡ packedDatesOf (now (plan .entry)) start pack (now (pauses .entry)) ⌝ }
 {
-    let kept = unpack(pauses);
-    let at = kept.at;
-    dates_lent(plan, start, pack, at, kept.count)
+    dates_lent(
+        plan,
+        start,
+        pack,
+        packed_records(pauses),
+        packed_count(pauses),
+    )
 }

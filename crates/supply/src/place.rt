@@ -13,7 +13,7 @@ ghost use Rattle.day.specs.Days.{lastNumber};
 ghost use Rattle.doses.specs.Doses.{positionOf};
 ghost use Rattle.plan.specs.Fields.{intervalOf, headerOf};
 ghost use Rattle.plan.specs.Periods.{blocksOf, blockAt, dosesOf};
-ghost use Rattle.supply.specs.code.Choosing.{Flag};
+ghost use Rattle.supply.specs.code.Surveying.{Flag};
 ghost use Rattle.supply.specs.code.Standing.{Sorted, Small, From, lowestAt, positionBehind, doseFrom, isStill, Placed, Moved, Stands, IsAt, InPeriod, keptOf};
 
 // The period at block b, in rounds of `interval` days, has `doses` doses. Or there is none.

@@ -1,7 +1,7 @@
 // What the plan's periods say of a day, by one walk over the blocks.
-use crate::bits::is_odd;
 use crate::until::NEVER;
 use crate::until::least;
+use need::is_odd;
 use plan::block_of;
 use plan::first_of;
 use plan::kind_of;
@@ -9,9 +9,9 @@ use plan::last_of;
 ghost use mathlib.Core.Path.{_≡_};
 ghost use mathlib.Core.Bool.{true};
 ghost use Prim.Native.Nat.{ℕ, _+_, _≤_, _<_};
+ghost use Rattle.need.specs.Telling.{Tells};
 ghost use Rattle.plan.specs.Periods.{blocksOf, isPeriod};
 ghost use Rattle.supply.specs.Steps.{isChosen};
-ghost use Rattle.supply.specs.code.Choosing.{Marks};
 ghost use Rattle.supply.specs.code.Surveying.{Surveyed, withLater, withPeriod};
 
 // The first two blocks whose periods have the day; where there is no such block the number lies past all blocks. `one` and `other` say
@@ -81,7 +81,7 @@ fn with_block(plan: &[u8], day: u32, s: Survey, chosen: bool, b: u8) -> Survey
 // What the periods say of the day. `chosen` has a bit for each block.
 pub(crate) fn survey_of(plan: &[u8], chosen: u32, day: u32) -> Survey
     requires { ⌜ blocksOf (now plan) ≤ 32 ⌝ }
-    ensures { λ r. ⌜ ((choice : ℕ) → Marks choice (now (plan .entry)) chosen → Surveyed choice (now (plan .entry)) day (blocksOf (now (plan .entry))) r) ⌝ }
+    ensures { λ r. ⌜ ((choice : ℕ) → Tells choice (now (plan .entry)) chosen → Surveyed choice (now (plan .entry)) day (blocksOf (now (plan .entry))) r) ⌝ }
 {
     let n = (plan.len() / 512) as u8;
     let mut bits = chosen;

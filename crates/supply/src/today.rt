@@ -19,7 +19,7 @@ ghost use mathlib.Core.Bool.{true, cond, _&&_};
 ghost use Prim.Native.Nat.{_+_, _≤_};
 ghost use lib.Dec.{ltb};
 ghost use Rattle.day.specs.Days.{lastNumber};
-ghost use Rattle.supply.specs.code.Choosing.{Marks};
+ghost use Rattle.need.specs.Telling.{Tells};
 ghost use Rattle.supply.specs.code.Standing.{Orderly, Placed, Known, Behind};
 
 // The day stands in the periods `first` and `second`, at a place in each. Up to day `until` all of this stays but the places, and up to
@@ -65,7 +65,7 @@ fn known_until(chosen: bool, rounds: Round, until: u32) -> u32
 
 // A day's periods and places, worked out from the plan. `chosen` has a bit for each block.
 pub(crate) fn on_day(plan: &[u8], choice: u32, chosen: u32, day: u32) -> Today
-    requires { ⌜ Orderly choice (now plan) × Marks choice (now plan) chosen × (day ≤ lastNumber) ⌝ }
+    requires { ⌜ Orderly choice (now plan) × Tells choice (now plan) chosen × (day ≤ lastNumber) ⌝ }
     ensures { λ r. ⌜ Known choice (now (plan .entry)) day r ⌝ }
 {
     let s = survey_of(plan, chosen, day);

@@ -1,5 +1,5 @@
-// Which dates a set has, by the periods that end on or after the start. The classes come with the verdict, so that no mark is read again.
-use need::is_stopping;
+// Which dates a set has, by the periods that end on or after the start. Which count comes with the verdict, so that no mark is read again.
+use need::is_odd;
 use need::stop_of;
 use plan::block_of;
 use plan::dose_in;
@@ -8,7 +8,9 @@ use plan::is_marked;
 use plan::is_period;
 use plan::last_of;
 ghost use mathlib.Core.Path.{_≡_};
-ghost use Rattle.verdict.specs.code.Ready.{Classed};
+ghost use Prim.Native.Nat.{_≤_};
+ghost use Rattle.need.specs.Telling.{Tells};
+ghost use Rattle.plan.specs.Periods.{blocksOf};
 ghost use Rattle.supply.specs.Dates.{hasInterval, isRanging, isNeeded};
 ghost use Rattle.supply.specs.code.Asking.{rangesWith};
 
@@ -26,14 +28,14 @@ fn has_interval(plan: &[u8], b: u8) -> bool
     false
 }
 
-// Has it one, and is it a fixed or mixed period, by its class, that ends on or after the start?
-fn is_ranging_at(plan: &[u8], start: u32, class: u8, b: u8) -> bool
-    ensures { λ r. ⌜ r ≡ rangesWith start class (now (plan .entry)) b ⌝ }
+// Has it one, and is it a period that ends on or after the start, which `fixed` says to be fixed or mixed?
+fn is_ranging_at(plan: &[u8], start: u32, fixed: bool, b: u8) -> bool
+    ensures { λ r. ⌜ r ≡ rangesWith start fixed (now (plan .entry)) b ⌝ }
 {
     if !is_period(plan, b) {
         return false;
     }
-    if !is_stopping(1, class) {
+    if !fixed {
         return false;
     }
     if last_of(block_of(plan, b as u16)) < start {
@@ -43,24 +45,26 @@ fn is_ranging_at(plan: &[u8], start: u32, class: u8, b: u8) -> bool
 }
 
 // Is there a minimum and a maximum date, and not one end date?
-pub(crate) fn is_ranging(plan: &[u8], start: u32, classes: [u8; 32]) -> bool
-    requires { ⌜ Classed (now plan) classes ⌝ }
+pub(crate) fn is_ranging(plan: &[u8], start: u32, chosen: u32) -> bool
+    requires { ⌜ Tells 1 (now plan) chosen × (blocksOf (now plan) ≤ 32) ⌝ }
     ensures { λ r. ⌜ r ≡ isRanging start (now (plan .entry)) ⌝ }
 {
     let n = (plan.len() / 512) as u8;
+    let mut bits = chosen;
     for b in 0..n {
-        if is_ranging_at(plan, start, classes[b as usize], b) {
+        if is_ranging_at(plan, start, is_odd(bits), b) {
             return true;
         }
+        bits = bits / 2;
     }
     false
 }
 
 // Are there dates 3 and 4? Some need or mixed period ends on or after the start if the last of them does, where choice 4 stops.
-pub(crate) fn is_needed(plan: &[u8], start: u32, classes: [u8; 32]) -> bool
-    requires { ⌜ Classed (now plan) classes ⌝ }
+pub(crate) fn is_needed(plan: &[u8], start: u32, chosen: u32) -> bool
+    requires { ⌜ Tells 4 (now plan) chosen ⌝ }
     ensures { λ r. ⌜ r ≡ isNeeded start (now (plan .entry)) ⌝ }
 {
-    let stop = stop_of(plan, 4, classes);
+    let stop = stop_of(plan, chosen);
     stop.any & (start <= stop.day)
 }

@@ -5,14 +5,14 @@ use mathlib.Core.Bool.{Bool, true, false, cond, _&&_}
 use mathlib.Core.List.{List}
 use lib.Dec.{eqb, leb, ltb}
 use Rattle.day.specs.Days.{lastNumber}
-use Rattle.need.specs.Need.{fixedOrMixed, needOn, stopDay, hasStop}
+use Rattle.need.specs.Need.{needOn, stopDay, hasStop}
+use Rattle.need.specs.Telling.{bitsIn, Tells}
 use Rattle.pause.specs.declared.Pause.{Pause}
 use Rattle.plan.specs.Fields.{lastOf}
 use Rattle.plan.specs.Periods.{blockAt, isPeriod}
 use Rattle.refusal.specs.Refusals.{alone}
 use Rattle.verdict.specs.Verdict.{verdictOf}
 use Rattle.verdict.specs.declared.Answer.the-variants.{Accepted}
-use Rattle.verdict.specs.code.Ready.{Classed}
 use Rattle.supply.specs.Dates.{hasInterval, isRanging, isNeeded, dateBy, setOf, setBy}
 use Rattle.supply.specs.Supply.{lastingOf, askedBy, ownBy, judgedOf, passedOn}
 use Rattle.supply.specs.code.Walking.{Ready}
@@ -41,7 +41,7 @@ answeredBy p a choice ps =
 -- what is known of the plan that it is asked of, where it is not refused
 pub record Judged (p : List ℕ) (a : Asked) : Type 0 where
   pub accepted : a .refused ≡ false → (n : ℕ) × (verdictOf p ≡ Accepted n)
-  pub classed : a .refused ≡ false → Classed p (a .classes)
+  pub tells : a .refused ≡ false → (choice : ℕ) → Tells choice p (bitsIn (a .counted) choice)
   pub start-in : a .refused ≡ false → a .start ≤ lastNumber
 
 -- a is asked for a supply; `out` says that 21 is due
@@ -66,9 +66,9 @@ pub record Begun (p : List ℕ) (a : Asked) (choice : ℕ) (w : Walk) : Type 0 w
   pub refused-is : w .refused ≡ true → (ps : List Pause) → answeredBy p a choice ps ≡ Refused (w .refusal)
   pub lasts-is : w .refused ≡ false → (ps : List Pause) → answeredBy p a choice ps ≡ Lasts (lastingOf (needOn choice p ps) (w .start) (w .stop) (w .rest))
 
--- the period at block b, if this is its class, is fixed or mixed, ends on or after the start and has an unmarked interval dose
-abbrev pub rangesWith : ℕ → ℕ → List ℕ → ℕ → Bool
-rangesWith start class p b = isPeriod p b && fixedOrMixed class && leb start (lastOf (blockAt p b)) && hasInterval p b
+-- the period at block b, if `fixed` says that it is fixed or mixed, ends on or after the start and has an unmarked interval dose
+abbrev pub rangesWith : ℕ → Bool → List ℕ → ℕ → Bool
+rangesWith start fixed p b = isPeriod p b && fixed && leb start (lastOf (blockAt p b)) && hasInterval p b
 
 -- the set, from the supplies by choices 1 to 4
 abbrev pub setFrom : Asked → Supply → Supply → Supply → Supply → DateSet

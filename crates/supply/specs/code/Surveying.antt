@@ -9,7 +9,6 @@ use Rattle.doses.specs.Doses.{covers}
 use Rattle.plan.specs.Fields.{firstOf}
 use Rattle.plan.specs.Periods.{blocksOf, blockAt, isPeriod}
 use Rattle.supply.specs.Steps.{isChosen}
-use Rattle.supply.specs.code.Choosing.{Flag}
 use Rattle.supply.specs.code.Standing.{Steady}
 use Rattle.supply.specs.declared.survey.Survey.{Survey}
 
@@ -31,6 +30,11 @@ pub record Clear (choice : ℕ) (p : List ℕ) (d n u : ℕ) : Type 0 where
   pub reached : d ≤ u
   pub ahead : (k : ℕ) → k < n → isPeriod p k ≡ true → isChosen choice p k ≡ true → d < firstOf (blockAt p k) → u < firstOf (blockAt p k)
   pub next : u < openMark → (k : ℕ) × (k < n) × (isPeriod p k ≡ true) × (isChosen choice p k ≡ true) × (firstOf (blockAt p k) ≡ u + 1)
+
+-- t says of the period at block b, if that is one of the first n, whether it has doses of the choice, and else says no
+pub record Flag (choice : ℕ) (p : List ℕ) (n b : ℕ) (t : Bool) : Type 0 where
+  pub is : b < n → t ≡ isChosen choice p b
+  pub none : n ≤ b → t ≡ false
 
 -- what the first n blocks say of day d
 pub record Surveyed (choice : ℕ) (p : List ℕ) (d n : ℕ) (s : Survey) : Type 0 where

@@ -6,11 +6,11 @@ use mathlib.Core.List.{List}
 use mathlib.Core.Logic.{_⊎_}
 use lib.Dec.{eqb, leb, ltb}
 use Rattle.day.specs.Days.{lastNumber, openMark}
+use Rattle.need.specs.Telling.{Tells}
 use Rattle.pause.specs.Pauses.{isPaused}
 use Rattle.pause.specs.declared.Pause.{Pause}
 use Rattle.pause.specs.declared.Sight.{Sight}
 use Rattle.supply.specs.Steps.{State, stepsOf, after}
-use Rattle.supply.specs.code.Choosing.{Marks}
 use Rattle.supply.specs.code.Standing.{Orderly, Known}
 use Rattle.supply.specs.declared.Lasting.{Lasting}
 use Rattle.supply.specs.declared.Supply.{Supply}
@@ -29,7 +29,7 @@ pub record Looking (choice : ℕ) (p : List ℕ) (w : Walk) : Type 0 where
 -- and knows where that day stands, unless it is the first, or behind those that are known
 pub record Going (choice : ℕ) (p : List ℕ) (w : Walk) : Type 0 where
   pub looks : Looking choice p w
-  pub marks : Marks choice p (w .chosen)
+  pub tells : Tells choice p (w .chosen)
   pub known : 0 < w .count → w .day ≤ w .today .until → Known choice p (w .day) (w .today)
 
 -- and knows where that day stands

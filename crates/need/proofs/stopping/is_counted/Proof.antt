@@ -6,14 +6,14 @@ use Rattle.need.proofs.stopping.is_counted.Tie as tie
 is-period-requires : tie.Need-is-period-requires
 is-period-requires c κs = search needs
 
-is-stopping-requires : tie.Need-is-stopping-requires
-is-stopping-requires c κs = search needs
+is-odd-requires : tie.Need-is-odd-requires
+is-odd-requires c κs = search needs
 
 returns : tie.Need-returns
-returns c = rw (sym (c .before .before .is-period .ensures) ∙ c .before .if1 .taken) (c .is-stopping .ensures)
+returns c = rw (sym (c .before .before .is-period .ensures) ∙ c .before .if1 .taken) (c .is-odd .ensures)
 
 returns-2 : tie.Need-returns-2
 returns-2 c = rw (sym (c .before .is-period .ensures) ∙ c .if1 .left)
 
 pub is-counted-spec : {M : Type 1} → statement M
-is-counted-spec = tie.close (tie.spec is-period-requires is-stopping-requires returns returns-2)
+is-counted-spec = tie.close (tie.spec is-period-requires is-odd-requires returns returns-2)

@@ -1,34 +1,30 @@
-use Prim.Native.Nat.{_+_, _-_, _≤_, min}
+use Prim.Native.Nat.{_+_, _-_, _^_, _≤_, _<_, min}
 use mathlib.Core.Bool.{true, false}
 use mathlib.Core.Path.{_≡_, sym, _∙_}
 use native.Mathlib.Omega.{arith}
-use lib.ListN.{length, getD}
 use borrow.Author.Needs.{needs}
 use borrow.Author.Tests.{not-true, not-false}
+use Rattle.below.proofs.Tests.{and-false}
 use Rattle.plan.specs.Fields.{lastOf}
 use Rattle.plan.specs.Periods.{blocksOf, blockAt}
-use Rattle.need.specs.Need.{stopsAt, stopDayBy, hasStopBy}
-use Rattle.need.proofs.Found.{Found, found-none, found-hit, found-miss, found-all, past-none}
+use Rattle.need.specs.Telling.{isTold}
+use Rattle.need.proofs.Found.{Found, found-none, found-hit, found-miss, found-all}
+use Rattle.need.proofs.Telling.{Behind, behind-none, behind-half, behind-first, set-past}
 use Rattle.need.proofs.stopping.stop_of.Statement.{statement}
 use Rattle.need.proofs.stopping.stop_of.Tie as tie
 
 abbrev Inv-loop : tie.InvT-loop
-Inv-loop plan choice classes n any₀ day₀ b₀ any day b = (b ≤ n) × (n ≡ min (blocksOf plan) 32) × Found (stopsAt choice (λ k. getD classes k 0) plan) (λ k. lastOf (blockAt plan k)) b any day
+Inv-loop plan chosen n bits₀ any₀ day₀ b₀ bits any day b =
+    (b ≤ n) × (n ≡ min (blocksOf plan) 32) × Behind chosen b bits × Found (isTold chosen plan) (λ k. lastOf (blockAt plan k)) b any day
 
 abbrev μ-loop : tie.MeasureT-loop
-μ-loop plan choice classes n any₀ day₀ b₀ any day b = n - b
+μ-loop plan chosen n bits₀ any₀ day₀ b₀ bits any day b = n - b
 
 least32-requires : tie.Need-least32-requires Inv-loop μ-loop
 least32-requires c κs = search needs
 
 loop-holds : tie.Need-loop-holds Inv-loop μ-loop
-loop-holds c = (search needs, search needs, found-none _ _)
-
-cast-is-counted : tie.Need-cast-is-counted Inv-loop μ-loop
-cast-is-counted c = search needs
-
-array-read-is-counted : tie.Need-array-read-is-counted Inv-loop μ-loop
-array-read-is-counted c = search needs
+loop-holds c = (search needs, search needs, behind-none _, found-none _ _)
 
 is-counted-requires : tie.Need-is-counted-requires Inv-loop μ-loop
 is-counted-requires c κs = search needs
@@ -43,8 +39,8 @@ loop-again : tie.Need-loop-again Inv-loop μ-loop
 loop-again c =
     let a = c .before .before .before .before .before .before .args in
     let l = c .before .before .before .loop in
-    let h : stopsAt (a .choice) (λ k. getD (a .t3) k 0) (a .plan .now) (l .b) ≡ false = sym (c .before .is-counted .ensures) ∙ not-true _ (c .if1 .taken) in
-    (search needs, search needs, found-miss _ _ (l .inv .2) h)
+    let h : isTold (a .chosen) (a .plan .now) (l .b) ≡ false = rw (behind-first (l .inv .2)) (sym (c .before .is-counted .ensures) ∙ not-true _ (c .if1 .taken)) in
+    (search needs, search needs, behind-half (l .inv .2), found-miss _ _ (l .inv .3) h)
 
 cast-block-of : tie.Need-cast-block-of Inv-loop μ-loop
 cast-block-of c = search needs
@@ -68,18 +64,17 @@ loop-again-2 : tie.Need-loop-again-2 Inv-loop μ-loop
 loop-again-2 c =
     let a = c .before .before .before .before .before .before .before .before .before .args in
     let l = c .before .before .before .before .before .before .loop in
-    let h : stopsAt (a .choice) (λ k. getD (a .t3) k 0) (a .plan .now) (l .b) ≡ true = sym (c .before .before .before .before .is-counted .ensures) ∙ not-false _ (c .before .before .before .if1 .left) in
-    (search needs, search needs, found-hit _ _ (l .inv .2) h (cc) (c .later .ensures))
+    let h : isTold (a .chosen) (a .plan .now) (l .b) ≡ true = rw (behind-first (l .inv .2)) (sym (c .before .before .before .before .is-counted .ensures) ∙ not-false _ (c .before .before .before .if1 .left)) in
+    (search needs, search needs, behind-half (l .inv .2), found-hit _ _ (l .inv .3) h (cc) (c .later .ensures))
 
 returns : tie.Need-returns Inv-loop μ-loop
-unfolding hasStopBy stopDayBy
 returns c =
     let a = c .before .before .before .before .args in
     let p = a .plan .now in
     let l = c .before .loop in
-    let long : length (a .t3) ≡ 32 = search needs in
+    let small : a .chosen < 2 ^ 32 = search needs in
     let e : l .b + (blocksOf p - l .b) ≡ blocksOf p = omega arith in
-    let f = rw e at (found-all _ _ (l .inv .2) (blocksOf p - l .b) (λ k h m. past-none (a .choice) (a .t3) p k long (omega arith))) in
+    let f = rw e at (found-all _ _ (l .inv .3) (blocksOf p - l .b) (λ k h m. rw (set-past 32 (a .chosen) k small (omega arith), and-false))) in
     (f .any-is, f .day-is)
 
 pub stop-of-spec : {M : Type 1} → statement M
@@ -90,8 +85,6 @@ stop-of-spec =
     μ-loop
     least32-requires
     loop-holds
-    cast-is-counted
-    array-read-is-counted
     is-counted-requires
     add-b
     loop-less

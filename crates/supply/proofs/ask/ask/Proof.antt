@@ -25,7 +25,7 @@ refusal-of-requires c κs = search needs
 returns : tie.Need-returns
 returns c =
     let e = c .before .enum-told2 .given .1 in
-    for-broken _ refl refl refl refl (sym (c .before .before .before .before .verdict-with-classes .ensures .0) ∙ e) refl (c .refusal-of .ensures ∙ ap refusalOf e)
+    for-broken _ refl refl refl refl (sym (c .before .before .before .verdict-with-classes .ensures .0) ∙ e) refl (c .refusal-of .ensures ∙ ap refusalOf e)
 
 asked-by-requires : tie.Need-asked-by-requires
 asked-by-requires c κs = search needs
@@ -33,14 +33,19 @@ asked-by-requires c κs = search needs
 alone-requires : tie.Need-alone-requires
 alone-requires c κs = search needs
 
+counted-by-requires : tie.Need-counted-by-requires
+counted-by-requires c κs = search needs
+
 returns-2 : tie.Need-returns-2
 returns-2 c =
-    let j = c .before .before .before .before .before .verdict-with-classes .ensures in
-    let v = sym (j .0) ∙ c .before .before .enum-told .given .1 in
-    let n = c .before .asked-by in
+    let j = c .before .before .before .before .before .before .verdict-with-classes .ensures in
+    let v = sym (j .0) ∙ c .before .before .before .before .enum-told .given .1 in
+    let n = c .before .before .asked-by in
+    let h = c .before .alone .ensures in
+    let m = c .counted-by .ensures in
     ⊎-elim
-    (λ (t : eqb (n .result) 0 ≡ true). for-going _ refl refl refl refl v (n .ensures) (c .alone .ensures) (j .1) (eqb-true _ _ t) (ap not t))
-    (λ (t : eqb (n .result) 0 ≡ false). for-refused _ refl refl refl refl v (n .ensures) (c .alone .ensures) (j .1) (eqb-false _ _ t) (ap not t))
+    (λ (t : eqb (n .result) 0 ≡ true). for-going _ refl refl refl refl v (n .ensures) h (j .1) m (eqb-true _ _ t) (ap not t))
+    (λ (t : eqb (n .result) 0 ≡ false). for-refused _ refl refl refl refl v (n .ensures) h (j .1) m (eqb-false _ _ t) (ap not t))
     (bool-cases (eqb (n .result) 0))
 
 pub ask-spec : {M : Type 1} → statement M
@@ -54,4 +59,5 @@ ask-spec =
     returns
     asked-by-requires
     alone-requires
+    counted-by-requires
     returns-2)

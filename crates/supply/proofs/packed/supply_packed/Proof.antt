@@ -7,21 +7,25 @@ use Rattle.supply.proofs.Unpacked.{supply-unpacked}
 use Rattle.supply.proofs.packed.supply_packed.Statement.{statement}
 use Rattle.supply.proofs.packed.supply_packed.Tie as tie
 
-unpack-requires : tie.Need-unpack-requires
-unpack-requires c κs = search needs
+packed-records-requires : tie.Need-packed-records-requires
+packed-records-requires c κs = search needs
+
+packed-count-requires : tie.Need-packed-count-requires
+packed-count-requires c κs = search needs
 
 supply-lent-requires : tie.Need-supply-lent-requires
 supply-lent-requires c κs =
     let s = c .before .before .before .before .args .pauses .now in
-    rw (c .before .unpack .ensures .0) (lent-few s)
+    rw (c .packed-count .ensures) (lent-few s)
 
 returns : tie.Need-returns
 returns c =
     let a = c .before .before .before .before .before .args in
     let s = a .pauses .now in
-    let k = c .before .before .unpack in
-    let records : take (k .result .count) (k .result .at) ≡ lentOf s = rw (k .ensures .0, k .ensures .1) (front-of-first 32 (lentOf s) (lent-few s)) in
+    let n = c .before .packed-count in
+    let at = c .before .before .packed-records in
+    let records : take (n .result) (at .result) ≡ lentOf s = rw (n .ensures, at .ensures) (front-of-first 32 (lentOf s) (lent-few s)) in
     rw (c .supply-lent .ensures, records) (supply-unpacked (a .plan .now) (a .start) (a .pack) (a .choice) s)
 
 pub supply-packed-spec : {M : Type 1} → statement M
-supply-packed-spec = tie.close (tie.spec unpack-requires supply-lent-requires returns)
+supply-packed-spec = tie.close (tie.spec packed-records-requires packed-count-requires supply-lent-requires returns)

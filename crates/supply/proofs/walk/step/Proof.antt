@@ -25,7 +25,7 @@ returns c =
     let g = able (a .pre .0) v in
     let l : c .before .before .before .before .stood .result .day ≤ a .args .s .until = omega (arith, a .pre .1, v .day-is) in
     went-from v
-    (went-over _ _ (a .args .s) _ _ (rw (v .chosen-is) (a .pre .0 .marks)) (g .looks) (λ ps seen. takes-none _ _ _ g (a .args .s) l ps seen (c .before .before .before .next-stride .ensures) (c .if1 .taken)) refl)
+    (went-over _ _ (a .args .s) _ _ (rw (v .chosen-is) (a .pre .0 .tells)) (g .looks) (λ ps seen. takes-none _ _ _ g (a .args .s) l ps seen (c .before .before .before .next-stride .ensures) (c .if1 .taken)) refl)
 
 advance-requires : tie.Need-advance-requires
 advance-requires c κs =
@@ -43,7 +43,7 @@ returns-2 c =
     let t = c .before .before .before .before .next-stride .ensures in
     let k = takes-stays _ _ _ g (a .args .s) l t in
     went-from v
-    (went-step _ _ (a .args .s) _ _ (rw (v .chosen-is) (a .pre .0 .marks)) (g .looks) _ (k .some) (c .advance .ensures)
+    (went-step _ _ (a .args .s) _ _ (rw (v .chosen-is) (a .pre .0 .tells)) (g .looks) _ (k .some) (c .advance .ensures)
     (λ ps seen. (takes-days _ _ _ g (a .args .s) l ps seen t (c .before .if1 .left), takes-need _ _ _ g (a .args .s) l ps seen t)))
 
 pub step-spec : {M : Type 1} → statement M

@@ -10,7 +10,7 @@ use Rattle.supply.proofs.walk.stood.Tie as tie
 on-day-requires : tie.Need-on-day-requires
 on-day-requires c κs =
     let g = c .before .before .before .before .before .before .pre in
-    (g .looks .orderly, g .marks, omega (arith, g .looks .within, g .looks .dated))
+    (g .looks .orderly, g .tells, omega (arith, g .looks .within, g .looks .dated))
 
 returns : tie.Need-returns
 returns c =

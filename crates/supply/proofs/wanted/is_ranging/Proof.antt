@@ -3,31 +3,29 @@ use mathlib.Core.Bool.{true, false, _&&_}
 use mathlib.Core.Path.{_≡_, sym, _∙_}
 use native.Mathlib.Omega.{arith}
 use Rattle.below.proofs.Search.{NoneBelow, none-zero, none-more, any-hit, any-end}
+use Rattle.need.proofs.Telling.{Behind, behind-none, behind-half, behind-first}
 use Rattle.need.specs.Need.{fixedOrMixed}
 use Rattle.plan.specs.Periods.{blocksOf}
 use Rattle.supply.specs.Dates.{endsFrom, hasInterval, isRanging}
-use Rattle.supply.proofs.Wanting.{ranges-classed}
+use Rattle.supply.proofs.Wanting.{ranges-told}
 use borrow.Author.Needs.{needs}
 use Rattle.supply.proofs.wanted.is_ranging.Statement.{statement}
 use Rattle.supply.proofs.wanted.is_ranging.Tie as tie
 
 abbrev Inv-loop : tie.InvT-loop
-Inv-loop plan start classes n b₀ b = (b ≤ n) × (n ≡ blocksOf plan) × NoneBelow (λ k. endsFrom fixedOrMixed start plan k && hasInterval plan k) b
+Inv-loop plan start chosen n bits₀ b₀ bits b = (b ≤ n) × (n ≡ blocksOf plan) × Behind chosen b bits × NoneBelow (λ k. endsFrom fixedOrMixed start plan k && hasInterval plan k) b
 
 abbrev μ-loop : tie.MeasureT-loop
-μ-loop plan start classes n b₀ b = n - b
+μ-loop plan start chosen n bits₀ b₀ bits b = n - b
 
 cast-n : tie.Need-cast-n Inv-loop μ-loop
 cast-n c = search needs
 
 loop-holds : tie.Need-loop-holds Inv-loop μ-loop
-loop-holds c = (search needs, search needs, none-zero _)
+loop-holds c = (search needs, search needs, behind-none _, none-zero _)
 
-cast-is-ranging-at : tie.Need-cast-is-ranging-at Inv-loop μ-loop
-cast-is-ranging-at c = search needs
-
-array-read-is-ranging-at : tie.Need-array-read-is-ranging-at Inv-loop μ-loop
-array-read-is-ranging-at c = search needs
+is-odd-requires : tie.Need-is-odd-requires Inv-loop μ-loop
+is-odd-requires c κs = search needs
 
 is-ranging-at-requires : tie.Need-is-ranging-at-requires Inv-loop μ-loop
 is-ranging-at-requires c κs = search needs
@@ -35,9 +33,10 @@ is-ranging-at-requires c κs = search needs
 returns : tie.Need-returns Inv-loop μ-loop
 unfolding isRanging
 returns c =
-    let a = c .before .before .before .before .before .args in
-    let l = c .before .before .before .loop in
-    let h = sym (ranges-classed (a .start) (c .before .before .before .before .before .pre) (l .b) (omega arith)) ∙ sym (c .before .is-ranging-at .ensures) ∙ c .if1 .taken in
+    let a = c .before .before .before .before .before .before .args in
+    let l = c .before .before .before .before .loop in
+    let bit = rw (c .before .before .is-odd .ensures, ← behind-first (l .inv .2)) at (c .before .is-ranging-at .ensures) in
+    let h = sym (ranges-told (a .start) (c .before .before .before .before .before .before .pre .0) (l .b) (omega arith)) ∙ sym bit ∙ c .if1 .taken in
     sym (any-hit (λ k. endsFrom fixedOrMixed (a .start) (a .plan .now) k && hasInterval (a .plan .now) k) (omega arith) h)
 
 add-b : tie.Need-add-b Inv-loop μ-loop
@@ -48,14 +47,15 @@ loop-less c = search needs
 
 loop-again : tie.Need-loop-again Inv-loop μ-loop
 loop-again c =
-    let a = c .before .before .before .before .before .args in
-    let l = c .before .before .before .loop in
-    let h = sym (ranges-classed (a .start) (c .before .before .before .before .before .pre) (l .b) (omega arith)) ∙ sym (c .before .is-ranging-at .ensures) ∙ c .if1 .left in
-    (search needs, search needs, none-more (λ k. endsFrom fixedOrMixed (a .start) (a .plan .now) k && hasInterval (a .plan .now) k) (l .inv .2) h)
+    let a = c .before .before .before .before .before .before .args in
+    let l = c .before .before .before .before .loop in
+    let bit = rw (c .before .before .is-odd .ensures, ← behind-first (l .inv .2)) at (c .before .is-ranging-at .ensures) in
+    let h = sym (ranges-told (a .start) (c .before .before .before .before .before .before .pre .0) (l .b) (omega arith)) ∙ sym bit ∙ c .if1 .left in
+    (search needs, search needs, behind-half (l .inv .2), none-more (λ k. endsFrom fixedOrMixed (a .start) (a .plan .now) k && hasInterval (a .plan .now) k) (l .inv .3) h)
 
 returns-2 : tie.Need-returns-2 Inv-loop μ-loop
 unfolding isRanging
-returns-2 c = sym (any-end _ (omega arith) (c .before .loop .inv .2))
+returns-2 c = sym (any-end _ (omega arith) (c .before .loop .inv .3))
 
 pub is-ranging-spec : {M : Type 1} → statement M
 is-ranging-spec =
@@ -65,8 +65,7 @@ is-ranging-spec =
     μ-loop
     cast-n
     loop-holds
-    cast-is-ranging-at
-    array-read-is-ranging-at
+    is-odd-requires
     is-ranging-at-requires
     returns
     add-b
