@@ -17,8 +17,8 @@ use Rattle.plan.specs.Fields.{lastOf}
 use Rattle.plan.specs.Periods.{blocksOf, blockAt, isPeriod, classOf}
 use Rattle.verdict.specs.code.Ready.{Classed}
 use Rattle.need.specs.Need.{choiceOf, stopsAt, stopDayBy, hasStopBy, stopDay, hasStop}
-use Rattle.need.specs.Telling.{isSet, bitsFrom, bitsBy, countedOf, bitsIn, isTold, toldDay, anyTold, Tells}
-use Rattle.need.specs.declared.Counted.{Counted}
+use Rattle.need.specs.Telling.{isSet, bitsFrom, bitsBy, toldOf, bitsIn, isTold, toldDay, anyTold, Tells}
+use Rattle.need.specs.declared.Told.{Told}
 use Rattle.need.proofs.Found.{largest-same}
 use Rattle.need.proofs.Rows.{stops-fixed, stops-other}
 
@@ -122,7 +122,7 @@ module _ (f : ℕ → Bool) where
 
 -- ---- those of a plan
 -- the bits by the classes that come with the verdict
-module _ {p cs : List ℕ} (k : Classed p cs) {x : Counted} (e : x ≡ countedOf cs p) where
+module _ {p cs : List ℕ} (k : Classed p cs) {x : Told} (e : x ≡ toldOf cs p) where
   by-class : (choice b : ℕ) → b < blocksOf p → isPeriod p b ≡ true → isSet (bitsBy choice cs p) b ≡ choiceOf choice .stops (classOf p b)
   by-class choice b l t =
       let z : 0 + b ≡ b = omega arith in
@@ -132,13 +132,13 @@ module _ {p cs : List ℕ} (k : Classed p cs) {x : Counted} (e : x ≡ countedOf
   told : (choice b : ℕ) → b < blocksOf p → isPeriod p b ≡ true → isSet (bitsIn x choice) b ≡ choiceOf choice .stops (classOf p b)
   told choice b l t =
       ⊎-elim
-      (λ (h : (eqb choice 1 || eqb choice 2) ≡ true). rw (h, stops-fixed choice h (classOf p b), ap (λ (x : Counted). x .fixed) e) (by-class 1 b l t ∙ stops-fixed 1 refl (classOf p b)))
+      (λ (h : (eqb choice 1 || eqb choice 2) ≡ true). rw (h, stops-fixed choice h (classOf p b), ap (λ (x : Told). x .fixed) e) (by-class 1 b l t ∙ stops-fixed 1 refl (classOf p b)))
       (λ (h : (eqb choice 1 || eqb choice 2) ≡ false).
       ⊎-elim
-      (λ (u : eqb choice 3 ≡ true). rw (eqb-true choice 3 u, ap (λ (x : Counted). x .dosed) e) (by-class 3 b l t))
+      (λ (u : eqb choice 3 ≡ true). rw (eqb-true choice 3 u, ap (λ (x : Told). x .dosed) e) (by-class 3 b l t))
       (λ (u : eqb choice 3 ≡ false).
       ⊎-elim
-      (λ (v : eqb choice 4 ≡ true). rw (eqb-true choice 4 v, ap (λ (x : Counted). x .needed) e) (by-class 4 b l t))
+      (λ (v : eqb choice 4 ≡ true). rw (eqb-true choice 4 v, ap (λ (x : Told). x .needed) e) (by-class 4 b l t))
       (λ (v : eqb choice 4 ≡ false). rw (h, stops-other choice h v (classOf p b), u, v) (set-past 0 0 b (omega arith) (omega arith)))
       (bool-cases (eqb choice 4)))
       (bool-cases (eqb choice 3)))

@@ -9,7 +9,7 @@ use Rattle.below.specs.Below.{anyBelow, largestBelow}
 use Rattle.plan.specs.Fields.{lastOf}
 use Rattle.plan.specs.Periods.{blocksOf, blockAt, isPeriod, classOf}
 use Rattle.need.specs.Need.{choiceOf}
-use Rattle.need.specs.declared.Counted.{Counted}
+use Rattle.need.specs.declared.Told.{Told}
 
 -- bit b of a number, the lowest first
 unfoldable pub isSet : ℕ → ℕ → Bool
@@ -25,11 +25,12 @@ bitsFrom f b (suc n) = cond (f b) 1 0 + 2 * bitsFrom f (b + 1) n
 abbrev pub bitsBy : ℕ → List ℕ → List ℕ → ℕ
 bitsBy choice cs p = bitsFrom (λ b. choiceOf choice .stops (getD cs b 0)) 0 (min (blocksOf p) 32)
 
-abbrev pub countedOf : List ℕ → List ℕ → Counted
-countedOf cs p = record { fixed = bitsBy 1 cs p; dosed = bitsBy 3 cs p; needed = bitsBy 4 cs p }
+-- the same for each choice; 1 and 2 have one number
+abbrev pub toldOf : List ℕ → List ℕ → Told
+toldOf cs p = record { fixed = bitsBy 1 cs p; dosed = bitsBy 3 cs p; needed = bitsBy 4 cs p }
 
 -- the bits of a choice; by any other number nothing counts
-abbrev pub bitsIn : Counted → ℕ → ℕ
+abbrev pub bitsIn : Told → ℕ → ℕ
 bitsIn x choice = cond (eqb choice 1 || eqb choice 2) (x .fixed) (cond (eqb choice 3) (x .dosed) (cond (eqb choice 4) (x .needed) 0))
 
 -- the period at block b is told, the last day of any that is, and whether there is one

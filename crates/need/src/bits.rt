@@ -1,13 +1,13 @@
 // Which periods count by a choice, told in a number: a bit for each block, the first the lowest. They are made once, of the classes that
 // come with the verdict; a walk carries the number, where the array of the classes would be copied with it.
-use crate::Counted;
+use crate::Told;
 use crate::choice::is_stopping;
 ghost use mathlib.Core.Path.{_≡_};
 ghost use mathlib.Core.Bool.{cond, _||_};
 ghost use Prim.Native.Nat.{_+_, _*_, _<_, _≤_, min};
 ghost use lib.Dec.{eqb};
 ghost use Rattle.need.specs.Need.{choiceOf};
-ghost use Rattle.need.specs.Telling.{isSet, countedOf, bitsIn};
+ghost use Rattle.need.specs.Telling.{isSet, toldOf, bitsIn};
 
 pub(crate) fn least32(n: usize) -> u8
     ensures { λ r. ⌜ r ≡ min n 32 ⌝ }
@@ -30,11 +30,11 @@ fn with_bit(bits: u32, t: bool) -> u32
 }
 
 // The same of all choices, by the class of the block's period.
-fn with_class(x: Counted, class: u8) -> Counted
+fn with_class(x: Told, class: u8) -> Told
     requires { ⌜ (x .fixed < 2147483648) × (x .dosed < 2147483648) × (x .needed < 2147483648) ⌝ }
     ensures { λ r. ⌜ (r .fixed ≡ cond (choiceOf 1 .stops class) 1 0 + 2 * x .fixed) × (r .dosed ≡ cond (choiceOf 3 .stops class) 1 0 + 2 * x .dosed) × (r .needed ≡ cond (choiceOf 4 .stops class) 1 0 + 2 * x .needed) ⌝ }
 {
-    Counted {
+    Told {
         fixed: with_bit(x.fixed, is_stopping(1, class)),
         dosed: with_bit(x.dosed, is_stopping(3, class)),
         needed: with_bit(x.needed, is_stopping(4, class)),
@@ -42,10 +42,10 @@ fn with_class(x: Counted, class: u8) -> Counted
 }
 
 // The bits of the plan's blocks, 32 at the most. `classes` has the class of the period at each block.
-pub fn counted_by(plan: &[u8], classes: [u8; 32]) -> Counted
-    ensures { λ r. ⌜ r ≡ countedOf classes (now (plan .entry)) ⌝ }
+pub fn told_by(plan: &[u8], classes: [u8; 32]) -> Told
+    ensures { λ r. ⌜ r ≡ toldOf classes (now (plan .entry)) ⌝ }
 {
-    let mut x = Counted {
+    let mut x = Told {
         fixed: 0,
         dosed: 0,
         needed: 0,
@@ -59,7 +59,7 @@ pub fn counted_by(plan: &[u8], classes: [u8; 32]) -> Counted
 }
 
 // The bits of a choice.
-pub fn bits_by(x: Counted, choice: u32) -> u32
+pub fn bits_by(x: Told, choice: u32) -> u32
     ensures { λ r. ⌜ r ≡ bitsIn x choice ⌝ }
 {
     if (choice == 1) | (choice == 2) {

@@ -6,8 +6,8 @@ mod due;
 mod stopping;
 
 pub use bits::bits_by;
-pub use bits::counted_by;
 pub use bits::is_odd;
+pub use bits::told_by;
 pub use choice::amount;
 pub use choice::is_choice;
 pub use due::due_on;
@@ -21,7 +21,7 @@ pub struct Stop {
 
 // Which periods count, a bit for each block: by choices 1 and 2 the fixed and mixed ones, by 3 those with doses, by 4 the need and mixed
 // ones.
-pub struct Counted {
+pub struct Told {
     pub fixed: u32,
     pub dosed: u32,
     pub needed: u32,

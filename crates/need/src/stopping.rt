@@ -18,7 +18,7 @@ fn later(x: u32, y: u32) -> u32
 }
 
 // Does a period begin at block b, whose bit is the lowest, and does it count?
-fn is_counted(plan: &[u8], bits: u32, b: u8) -> bool
+fn is_told(plan: &[u8], bits: u32, b: u8) -> bool
     ensures { λ r. ⌜ r ≡ (isPeriod (now (plan .entry)) b && isSet bits 0) ⌝ }
 {
     if is_period(plan, b) {
@@ -36,9 +36,9 @@ pub fn stop_of(plan: &[u8], chosen: u32) -> Stop
     let mut any = false;
     let mut day: u32 = 0;
     for b in 0..n {
-        let counts = is_counted(plan, bits, b);
+        let told = is_told(plan, bits, b);
         bits = bits / 2;
-        if !counts {
+        if !told {
             continue;
         }
         any = true;

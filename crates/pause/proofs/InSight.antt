@@ -17,7 +17,7 @@ use Rattle.day.specs.Days.{openMark, closedDay}
 use Rattle.pause.specs.declared.Pause.{Pause}
 use Rattle.pause.specs.declared.Sight.{Sight}
 use Rattle.pause.specs.Pauses.{noDay, holds, isPaused}
-use Rattle.pause.specs.Sight.{steadyTo, steadyBelow, sightTo, sightOf, seenWith}
+use Rattle.pause.specs.Sight.{steadyTo, steadyBelow, sightTo, sightOf, sightOn, seenWith}
 
 -- what a list without a pause says, from any day on
 abbrev pub noPause : Sight
@@ -98,6 +98,18 @@ module _ (x : Pause) where
     ends (ahead l h q) f m = within (omega arith) (omega arith)
     ends (never n q) f m = absurd (omega arith)
 
+  -- where no day from e on lies in the pause, that stays so
+  stays-out : {e t : ℕ} → Lies e t → ((f : ℕ) → e ≤ f → holds x f ≡ false) → t ≡ openMark
+  stays-out {e} (in-it l h q) n = absurd (true-not-false (within l h) (n e (omega arith)))
+  stays-out (ahead l h q) n = absurd (true-not-false (within (omega arith) h) (n (x .first) (omega arith)))
+  stays-out (never m q) n = q
+
+  -- the days up to s have the same s
+  steady-on : {d s : ℕ} → Lies d s → {e : ℕ} → d ≤ e → e ≤ s → steadyTo x e ≡ s
+  steady-on (in-it l h q) {e} k m = steady-begun e (omega arith) ∙ ap (λ (t : Bool). cond t end openMark) (le-leb e end (omega arith)) ∙ sym q
+  steady-on (ahead l h q) {e} k m = steady-ahead e (omega arith) ∙ ap (λ (t : Bool). cond t (x .first - 1) openMark) (le-leb (x .first) end h) ∙ sym q
+  steady-on (never n q) {e} k m = stays-out (lies e) (λ f z. n f (le-trans k z)) ∙ sym q
+
 -- ---- a list of them
 module _ (xs : List Pause) (d : ℕ) where
   abbrev at : ℕ → Pause
@@ -142,6 +154,30 @@ module _ (xs : List Pause) (d : ℕ) where
   sight-steady {e} l h =
       any-same (λ i. holds (at i) e) (λ i. holds (at i) d) (length xs)
       (λ i k. steady (at i) d (lies (at i) d) l (le-trans h (below-least (length xs) i k)))
+
+  -- .. and has the same days in sight
+  below-on : {e : ℕ} → d ≤ e → (n : ℕ) → e ≤ steadyBelow n xs d → steadyBelow n xs e ≡ steadyBelow n xs d
+  unfolding steadyBelow
+  below-on l zero h = refl
+  below-on l (suc n) h =
+      rw (
+        below-on l n (le-trans h (min-left (steadyBelow n xs d) (steadyTo (at n) d))),
+        steady-on (at n) (lies (at n) d) l (le-trans h (min-right (steadyBelow n xs d) (steadyTo (at n) d))),
+      )
+
+  to-on : {e : ℕ} → d ≤ e → e ≤ sightTo xs d → sightTo xs e ≡ sightTo xs d
+  unfolding sightTo
+  to-on l h = below-on l (length xs) h
+
+  -- so what is known from day d on, and asked of a later day, is what the list says from that day on
+  pub sight-on : {e : ℕ} {known r : Sight} → d ≤ e → known ≡ sightOf xs d → r ≡ sightOn xs e known → r ≡ sightOf xs e
+  sight-on {e} l k s =
+      s
+      ∙ ap (sightOn xs e) k
+      ∙ ⊎-elim
+      (λ (h : e ≤ sightTo xs d). rw (le-leb e (sightTo xs d) h, to-on l h))
+      (λ (h : sightTo xs d < e). rw (lt-leb e (sightTo xs d) h))
+      (le-or-lt e (sightTo xs d))
 
   -- where day d is not paused, the day behind what is in sight is
   pub sight-ends : isPaused xs d ≡ false → sightTo xs d < openMark → isPaused xs (sightTo xs d + 1) ≡ true

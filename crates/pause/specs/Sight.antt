@@ -26,6 +26,10 @@ sightTo xs d = steadyBelow (length xs) xs d
 abbrev pub sightOf : List Pause → ℕ → Sight
 sightOf xs d = record { paused = isPaused xs d; until = sightTo xs d }
 
+-- the same, where `known` is what the list says from an earlier day on: up to the day that it names, only whether day d is paused is asked
+abbrev pub sightOn : List Pause → ℕ → Sight → Sight
+sightOn xs d known = cond (leb d (known .until)) (record { paused = isPaused xs d; until = known .until }) (sightOf xs d)
+
 -- what was said before of day d, and one pause more
 abbrev pub seenWith : Sight → Pause → ℕ → Sight
 seenWith s x d = record { paused = s .paused || holds x d; until = min (s .until) (steadyTo x d) }

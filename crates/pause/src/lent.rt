@@ -10,7 +10,7 @@ use crate::test::with_pause_in_sight;
 ghost use mathlib.Core.Path.{_≡_};
 ghost use lib.ListN.{getD};
 ghost use Rattle.pause.specs.Pauses.{noDay, isPaused, areOut};
-ghost use Rattle.pause.specs.Sight.{sightOf};
+ghost use Rattle.pause.specs.Sight.{sightOf, sightOn};
 
 // The pause at place `i` of the list; past the end, one that holds no day.
 pub fn pause_at(ps: &[Pause], i: usize) -> Pause
@@ -61,4 +61,18 @@ pub fn sight_from(ps: &[Pause], day: u32) -> Sight
         i = i + 1;
     }
     s
+}
+
+// The same, where `known` is what the list says from an earlier day on: up to the day that it names nothing changes, so that the list is
+// only asked whether the day is paused.
+pub fn sight_on(ps: &[Pause], day: u32, known: Sight) -> Sight
+    ensures { λ r. ⌜ r ≡ sightOn (now (ps .entry)) day known ⌝ }
+{
+    if day <= known.until {
+        return Sight {
+            paused: paused(ps, day),
+            until: known.until,
+        };
+    }
+    sight_from(ps, day)
 }

@@ -8,6 +8,7 @@ pub use lent::are_out;
 pub use lent::pause_at;
 pub use lent::paused;
 pub use lent::sight_from;
+pub use lent::sight_on;
 pub use packed::packed_count;
 pub use packed::packed_records;
 pub use test::is_in;

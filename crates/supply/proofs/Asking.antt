@@ -10,7 +10,7 @@ use borrow.Author.Tests.{eq-eqb, ne-eqb, eqb-true, eqb-false}
 use Rattle.below.proofs.Tests.{bool-cases, true-not-false}
 use Rattle.need.proofs.Telling.{tells}
 use Rattle.need.specs.Need.{stopDay, hasStop}
-use Rattle.need.specs.Telling.{countedOf}
+use Rattle.need.specs.Telling.{toldOf}
 use Rattle.pause.specs.Pauses.{areOut}
 use Rattle.pause.specs.declared.Pause.{Pause}
 use Rattle.refusal.specs.Refusals.{alone}
@@ -57,7 +57,7 @@ module _ {p : List ℕ} {start pack : ℕ} {out : Bool} where
         }
 
     -- it is
-    module _ {n number : ℕ} (v : verdictOf p ≡ Accepted n) (e : number ≡ askedBy start pack out 0) (h : a .refusal ≡ alone number) {cs : List ℕ} (c : cs ≡ classesBy (verdictOf p) p) (m : a .counted ≡ countedOf cs p) where
+    module _ {n number : ℕ} (v : verdictOf p ≡ Accepted n) (e : number ≡ askedBy start pack out 0) (h : a .refusal ≡ alone number) {cs : List ℕ} (c : cs ≡ classesBy (verdictOf p) p) (m : a .told ≡ toldOf cs p) where
       -- one of 20 to 22 is given
       pub for-refused : (number ≡ 0 → ⊥) → a .refused ≡ true → ForSupply p start pack out a
       unfolding answeredBy judgedOf
@@ -105,7 +105,7 @@ module _ {p : List ℕ} {start pack : ℕ} {out : Bool} where
       }
 
   -- the same but for the choices that are asked for
-  pub dates-asked : {a : Asked} (b : Asked) → ForSupply p start pack out a → b .refused ≡ a .refused → b .refusal ≡ a .refusal → b .start ≡ a .start → b .pack ≡ a .pack → b .counted ≡ a .counted →
+  pub dates-asked : {a : Asked} (b : Asked) → ForSupply p start pack out a → b .refused ≡ a .refused → b .refusal ≡ a .refusal → b .start ≡ a .start → b .pack ≡ a .pack → b .told ≡ a .told →
       b .upper ≡ isRanging start p → b .needed ≡ isNeeded start p → ForDates p start pack out b
   unfolding answeredBy
   dates-asked {a} b f r q s k c u w =

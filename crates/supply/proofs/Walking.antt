@@ -218,6 +218,12 @@ module _ (choice : ℕ) (p : List ℕ) (ps : List Pause) where
           done = λ e. o .over;
         }
 
+    -- no step goes back, so that what is in sight of one day serves the next
+    pub no-earlier : {w r : Walk} {s : Sight} → Inv w₀ w → w .going ≡ true → Seen ps (w .day) s → Went choice p s w r → w .day ≤ r .day
+    no-earlier {w} {r} i going seen t =
+        let l : left r < w .stop + 1 - w .day + 1 = rw going at (t .less) in
+        omega (arith, l, t .onward ps seen .stop-is, i .at going .looks .within)
+
     pub ends : {w : Walk} → Inv w₀ w → w .going ≡ false → Ended choice p ps w₀ w
     ends i g =
         record {

@@ -2,8 +2,8 @@
 use crate::wanted::is_needed;
 use crate::wanted::is_ranging;
 use day::Day;
-use need::Counted;
-use need::counted_by;
+use need::Told;
+use need::told_by;
 use refusal::Refusal;
 use verdict::Answer;
 use verdict::refusal_of;
@@ -23,12 +23,12 @@ pub(crate) struct Asked {
     pub needed: bool,
     pub refusal: Refusal,
     pub start: u32,
-    pub counted: Counted,
+    pub told: Told,
     pub pack: u64,
 }
 
 // Of a plan that is refused nothing is told.
-const NO_PERIODS: Counted = Counted {
+const NO_PERIODS: Told = Told {
     fixed: 0,
     dosed: 0,
     needed: 0,
@@ -63,7 +63,7 @@ pub(crate) fn ask(plan: &[u8], start: u32, pack: u64, out: bool) -> Asked
             needed: true,
             refusal: refusal_of(answer),
             start,
-            counted: NO_PERIODS,
+            told: NO_PERIODS,
             pack,
         };
     };
@@ -75,7 +75,7 @@ pub(crate) fn ask(plan: &[u8], start: u32, pack: u64, out: bool) -> Asked
         needed: true,
         refusal: Refusal::alone(number),
         start,
-        counted: counted_by(plan, classes),
+        told: told_by(plan, classes),
         pack,
     }
 }
@@ -88,8 +88,8 @@ pub(crate) fn ask_dates(plan: &[u8], start: u32, pack: u64, out: bool) -> Asked
     if a.refused {
         return a;
     }
-    let counted = a.counted;
-    a.upper = is_ranging(plan, start, counted.fixed);
-    a.needed = is_needed(plan, start, counted.needed);
+    let told = a.told;
+    a.upper = is_ranging(plan, start, told.fixed);
+    a.needed = is_needed(plan, start, told.needed);
     a
 }

@@ -67,7 +67,7 @@ pub(crate) fn begin(plan: &[u8], asked: Asked, choice: u32) -> Walk
     if !is_asked(asked, choice) {
         return refused(Refusal::alone(23));
     }
-    let chosen = bits_by(asked.counted, choice);
+    let chosen = bits_by(asked.told, choice);
     let stop = stop_of(plan, chosen);
     let number = own_by(asked.start, choice, stop);
     if number != 0 {

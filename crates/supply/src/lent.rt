@@ -15,21 +15,24 @@ use crate::walk::step;
 use pause::Pause;
 use pause::are_out;
 use pause::sight_from;
+use pause::sight_on;
 ghost use mathlib.Core.Path.{_≡_};
 ghost use Rattle.supply.specs.Dates.{datesOf};
 ghost use Rattle.supply.specs.Supply.{supplyOf};
 ghost use Rattle.supply.specs.code.Asking.{Judged, answeredBy};
 ghost use Rattle.supply.specs.code.Walking.{Ready, Ended};
 
-// The walk, step by step. Each day that is looked at is asked of the list of pauses, whether it is paused, and how far that stays so: this
-// is document 01's thin test of a day, and pauses split the walk by it.
+// The walk, step by step. Of each day that is looked at the list of pauses is asked whether it is paused: this is document 01's thin test
+// of a day, and pauses split the walk by it. How far that stays so is asked only of a day behind those that it is known of.
 fn walked(plan: &[u8], choice: u32, pauses: &[Pause], begun: Walk) -> Walk
     requires { ⌜ Ready choice (now plan) begun ⌝ }
     ensures { λ r. ⌜ Ended choice (now (plan .entry)) (now (pauses .entry)) begun r ⌝ }
 {
     let mut w = begun;
+    let mut s = sight_from(pauses, day_of(w));
     while is_going(w) {
-        w = step(plan, choice, w, sight_from(pauses, day_of(w)));
+        w = step(plan, choice, w, s);
+        s = sight_on(pauses, day_of(w), s);
     }
     w
 }

@@ -41,7 +41,7 @@ answeredBy p a choice ps =
 -- what is known of the plan that it is asked of, where it is not refused
 pub record Judged (p : List ℕ) (a : Asked) : Type 0 where
   pub accepted : a .refused ≡ false → (n : ℕ) × (verdictOf p ≡ Accepted n)
-  pub tells : a .refused ≡ false → (choice : ℕ) → Tells choice p (bitsIn (a .counted) choice)
+  pub tells : a .refused ≡ false → (choice : ℕ) → Tells choice p (bitsIn (a .told) choice)
   pub start-in : a .refused ≡ false → a .start ≤ lastNumber
 
 -- a is asked for a supply; `out` says that 21 is due

@@ -26,8 +26,8 @@ least32-requires c κs = search needs
 loop-holds : tie.Need-loop-holds Inv-loop μ-loop
 loop-holds c = (search needs, search needs, behind-none _, found-none _ _)
 
-is-counted-requires : tie.Need-is-counted-requires Inv-loop μ-loop
-is-counted-requires c κs = search needs
+is-told-requires : tie.Need-is-told-requires Inv-loop μ-loop
+is-told-requires c κs = search needs
 
 add-b : tie.Need-add-b Inv-loop μ-loop
 add-b c = search needs
@@ -39,7 +39,7 @@ loop-again : tie.Need-loop-again Inv-loop μ-loop
 loop-again c =
     let a = c .before .before .before .before .before .before .args in
     let l = c .before .before .before .loop in
-    let h : isTold (a .chosen) (a .plan .now) (l .b) ≡ false = rw (behind-first (l .inv .2)) (sym (c .before .is-counted .ensures) ∙ not-true _ (c .if1 .taken)) in
+    let h : isTold (a .chosen) (a .plan .now) (l .b) ≡ false = rw (behind-first (l .inv .2)) (sym (c .before .is-told .ensures) ∙ not-true _ (c .if1 .taken)) in
     (search needs, search needs, behind-half (l .inv .2), found-miss _ _ (l .inv .3) h)
 
 cast-block-of : tie.Need-cast-block-of Inv-loop μ-loop
@@ -64,7 +64,7 @@ loop-again-2 : tie.Need-loop-again-2 Inv-loop μ-loop
 loop-again-2 c =
     let a = c .before .before .before .before .before .before .before .before .before .args in
     let l = c .before .before .before .before .before .before .loop in
-    let h : isTold (a .chosen) (a .plan .now) (l .b) ≡ true = rw (behind-first (l .inv .2)) (sym (c .before .before .before .before .is-counted .ensures) ∙ not-false _ (c .before .before .before .if1 .left)) in
+    let h : isTold (a .chosen) (a .plan .now) (l .b) ≡ true = rw (behind-first (l .inv .2)) (sym (c .before .before .before .before .is-told .ensures) ∙ not-false _ (c .before .before .before .if1 .left)) in
     (search needs, search needs, behind-half (l .inv .2), found-hit _ _ (l .inv .3) h (cc) (c .later .ensures))
 
 returns : tie.Need-returns Inv-loop μ-loop
@@ -85,7 +85,7 @@ stop-of-spec =
     μ-loop
     least32-requires
     loop-holds
-    is-counted-requires
+    is-told-requires
     add-b
     loop-less
     loop-again

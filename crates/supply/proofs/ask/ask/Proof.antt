@@ -33,8 +33,8 @@ asked-by-requires c κs = search needs
 alone-requires : tie.Need-alone-requires
 alone-requires c κs = search needs
 
-counted-by-requires : tie.Need-counted-by-requires
-counted-by-requires c κs = search needs
+told-by-requires : tie.Need-told-by-requires
+told-by-requires c κs = search needs
 
 returns-2 : tie.Need-returns-2
 returns-2 c =
@@ -42,7 +42,7 @@ returns-2 c =
     let v = sym (j .0) ∙ c .before .before .before .before .enum-told .given .1 in
     let n = c .before .before .asked-by in
     let h = c .before .alone .ensures in
-    let m = c .counted-by .ensures in
+    let m = c .told-by .ensures in
     ⊎-elim
     (λ (t : eqb (n .result) 0 ≡ true). for-going _ refl refl refl refl v (n .ensures) h (j .1) m (eqb-true _ _ t) (ap not t))
     (λ (t : eqb (n .result) 0 ≡ false). for-refused _ refl refl refl refl v (n .ensures) h (j .1) m (eqb-false _ _ t) (ap not t))
@@ -59,5 +59,5 @@ ask-spec =
     returns
     asked-by-requires
     alone-requires
-    counted-by-requires
+    told-by-requires
     returns-2)

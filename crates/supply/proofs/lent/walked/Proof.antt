@@ -1,8 +1,9 @@
--- `supply::walked` meets its contract: a walk of its MIR, by hand, with a loop. A turn asks `is_going`, `day_of` and `sight_from`, and goes on by `step`; all that the
--- proof knows of the four is that they meet their contracts. The invariant is proofs/Walking.antt's. The walk is plain data: whenever a callee asks for it, it is had anew.
+-- `supply::walked` meets its contract: a walk of its MIR, by hand, with a loop. A turn asks `is_going`, goes on by `step`, and asks `day_of` and `sight_on`, as `sight_from` ahead of
+-- the first; all that the proof knows of the five is that they meet their contracts. The invariant is proofs/Walking.antt's, and that s is what the list says from the walk's day on.
+-- The walk and s are plain data: whenever a callee asks for them, they are had anew.
 -- Assumes nothing.
 use mathlib.Core.Bool.{Bool, true, false, not}
-use mathlib.Core.Path.{_≡_, refl, subst, ap, _∙_}
+use mathlib.Core.Path.{_≡_, refl, ap, _∙_}
 use mathlib.Core.WellFounded.{WellFounded, InvImage·wf}
 use Prim.Native.Nat.{ℕ, _≤_, _<_, _^_}
 use mathlib.Core.List.{List, [], _∷_}
@@ -30,7 +31,7 @@ use sound.WpLaws.{FmC, fmOf, WpFn-mono}
 use denote.RattleType.{RattleType, owns}
 use denote.Laws.{Is, Makes, shows}
 use denote.Memory.{pointee}
-use denote.Plain.{uint-vals, uint-tells, uint-makes, uint-lawful, bool-makes, bool-lawful}
+use denote.Plain.{uint-vals, uint-tells, uint-makes, uint-lawful, bool-lawful}
 use denote.Builtin.{u8, u32, bool}
 use denote.Ref.{RefT}
 use denote.Signature.{plain}
@@ -46,17 +47,21 @@ use denote.Triple.Walked.{needs, says, Stays, stay-none, stay-none-slice, walkOf
 use denote.Triple.Clauses.{ensured, lasts}
 use denote.Exit.{yes}
 use Rattle.pause.specs.declared.Pause.{Pause}
-use Rattle.pause.specs.Sight.{sightOf}
+use Rattle.pause.specs.Sight.{sightOf, sightOn}
 use Rattle.pause.specs.declared.Sight.{Sight}
-use Rattle.pause.proofs.Walk.{One, Seen as Sg, seen-makes, seen-typed, calls-told}
+use Rattle.pause.proofs.InSight.{sight-on}
+use Rattle.pause.proofs.Walk.{One, Seen as Sg, seen-makes, seen-typed, calls-told, SightFrom, calls-sight-from}
 use Rattle.pause.proofs.Loop.{tests}
-use Rattle.pause.proofs.sight_from as sight
 use Rattle.pause.proofs.sight_from.Symbol as sight-def
 use Rattle.pause.proofs.sight_from.Symbol.{name as #pause·lent·sight-from}
 use Rattle.pause.proofs.sight_from.Met as sight-thm
+use Rattle.pause.proofs.sight_on as on
+use Rattle.pause.proofs.sight_on.Symbol as on-def
+use Rattle.pause.proofs.sight_on.Symbol.{name as #pause·lent·sight-on}
+use Rattle.pause.proofs.sight_on.Met as on-thm
 use Rattle.supply.specs.declared.walk.Walk.{Walk}
 use Rattle.supply.specs.code.Walking.{Going, Ready, Seen, Went, Ended, left}
-use Rattle.supply.proofs.Walking.{Inv, begins, turns as goes-round, ends, seen-from}
+use Rattle.supply.proofs.Walking.{Inv, begins, turns as goes-round, no-earlier, ends, seen-from}
 use Rattle.supply.proofs.walk.Walk as T
 use Rattle.supply.proofs.walk.Walk.Laws as T′
 use Rattle.supply.proofs.walk.is_going as going
@@ -126,17 +131,18 @@ module _ {M : Type 1} (𝓤 : URA M) (H : Heap 𝓤) (A : Atoms 𝓤) (mem : Mem
   abbrev DayOf : Contract 𝓤
   DayOf = tripleOf 𝓤 H A day.signature (day.spec 𝓤 H A mem run)
 
-  abbrev SightFrom : Contract 𝓤
-  SightFrom = tripleOf 𝓤 H A sight.signature (sight.spec 𝓤 H A mem run)
+  abbrev SightOn : Contract 𝓤
+  SightOn = tripleOf 𝓤 H A on.signature (on.spec 𝓤 H A mem run)
 
   abbrev Step : Contract 𝓤
   Step = tripleOf 𝓤 H A step.signature (step.spec 𝓤 H A mem run)
 
-  -- what is known of the four
+  -- what is known of the five
   record Callees (C : Calls 𝓤 H) : Type 2 where
     pub going-met : Triple 𝓤 (C #supply·walk·is-going) IsGoing
     pub day-met : Triple 𝓤 (C #supply·walk·day-of) DayOf
-    pub sight-met : Triple 𝓤 (C #pause·lent·sight-from) SightFrom
+    pub sight-met : Triple 𝓤 (C #pause·lent·sight-from) (SightFrom 𝓤 H A mem run)
+    pub on-met : Triple 𝓤 (C #pause·lent·sight-on) SightOn
     pub step-met : Triple 𝓤 (C #supply·walk·step) Step
 
 module _ {M : Type 1} (𝓤 : URA M) (H : Heap 𝓤) (A : Atoms 𝓤) (W : Given 𝓤 H A) (mem : Memory → SProp 𝓤) (run : Routine → Fun 𝓤) (κ κ′ : Lft) (q q′ : Share) (x : RefT (List ℕ)) (choice : ℕ) (y : RefT (List Pause)) (w₀ : Walk) (v₀ : Val) where
@@ -213,21 +219,21 @@ module _ {M : Type 1} (𝓤 : URA M) (H : Heap 𝓤) (A : Atoms 𝓤) (W : Given
     tells-day : (r : ℕ) → ent 𝓤 (said-day r) (fact 𝓤 (r ≡ w .day))
     tells-day r = exE 𝓤 _ (λ ws. snd∗ 𝓤 (sem 𝓤 H A (lasts day.ended tt (w, tt) ws)) (fact 𝓤 (r ≡ w .day)))
 
-  -- ---- the call of `sight_from`
-  module _ (d : ℕ) where
-    abbrev to-sight : SightFrom 𝓤 H A mem run .Ghost
-    to-sight = (((κ′, tt), (q′, tt), tt, (y, (d, tt)), (yv ∷ [], (vint w32 d ∷ [], tt))), tt)
+  -- ---- the call of `sight_on`
+  module _ (d : ℕ) (b : Sight) (bv : Val) where
+    abbrev to-on : SightOn 𝓤 H A mem run .Ghost
+    to-on = (((κ′, tt), (q′, tt), tt, (y, (d, (b, tt))), (yv ∷ [], (vint w32 d ∷ [], (bv ∷ [], tt)))), tt)
 
-    asks-sight : d < 2 ^ 32 → ent 𝓤 (sep 𝓤 (A .lft κ′ q′) (sem 𝓤 H A Lent)) (SightFrom 𝓤 H A mem run .pre to-sight)
-    asks-sight gd =
-        qed W (‵ (flft κ′ q′) ∷ ‵ Lent ∷ []) ∵ nothing ! $ owned ! u32 (Is u32) (uint-makes 𝓤 H A W w32) d _ (refl, gd) $ fjoin ! $ move ! (2 ∷ 0 ∷ []) $ fjoin ! $
+    asks-on : d < 2 ^ 32 → Is Sg b (bv ∷ []) → ent 𝓤 (sep 𝓤 (A .lft κ′ q′) (sem 𝓤 H A Lent)) (SightOn 𝓤 H A mem run .pre to-on)
+    asks-on gd isb =
+        qed W (‵ (flft κ′ q′) ∷ ‵ Lent ∷ []) ∵ nothing ! $ owned ! Sg (Is Sg) (seen-makes 𝓤 H A) b _ isb $ fjoin ! $ owned ! u32 (Is u32) (uint-makes 𝓤 H A W w32) d _ (refl, gd) $ fjoin ! $ move ! (2 ∷ 0 ∷ []) $ fjoin ! $
         move ! (1 ∷ []) $ nothing ! $ move ! (1 ∷ 0 ∷ []) $ join ! $ join ! $ frame ! $ done !
 
-    abbrev said-sight : Sight → SProp 𝓤
-    said-sight r = ensured 𝓤 H A sight.ended (sight.clauses 𝓤 H A mem run) (κ′, tt) (y, (d, tt)) tt r
+    abbrev said-on : Sight → SProp 𝓤
+    said-on r = ensured 𝓤 H A on.ended (on.clauses 𝓤 H A mem run) (κ′, tt) (y, (d, (b, tt))) tt r
 
-    tells-sight : (r : Sight) → ent 𝓤 (said-sight r) (fact 𝓤 (r ≡ sightOf (y .now) d))
-    tells-sight r = exE 𝓤 _ (λ ws. snd∗ 𝓤 (sem 𝓤 H A (lasts sight.ended (κ′, tt) (y, (d, tt)) ws)) (fact 𝓤 (r ≡ sightOf (y .now) d)))
+    tells-on : (r : Sight) → ent 𝓤 (said-on r) (fact 𝓤 (r ≡ sightOn (y .now) d b))
+    tells-on r = exE 𝓤 _ (λ ws. snd∗ 𝓤 (sem 𝓤 H A (lasts on.ended (κ′, tt) (y, (d, (b, tt))) ws)) (fact 𝓤 (r ≡ sightOn (y .now) d b)))
 
   -- ---- the call of `step`
   module _ (w : Walk) (v : Val) (b : Sight) (bv : Val) where
@@ -249,12 +255,16 @@ module _ {M : Type 1} (𝓤 : URA M) (H : Heap 𝓤) (A : Atoms 𝓤) (W : Given
     tells-step : (r : Walk) → ent 𝓤 (said-step r) (fact 𝓤 (Went choice (x .now) b w r))
     tells-step r = exE 𝓤 _ (λ ws. snd∗ 𝓤 (sem 𝓤 H A (lasts step.ended (κ, tt) sent ws)) (fact 𝓤 (Went choice (x .now) b w r)))
 
-  -- the loop's state: the walk w, whose machine value is v
+  -- the loop's state: the walk w, and what the list says from its day on; their machine values are v and bv
   record State : Type 0 where
     pub w : Walk
     pub v : Val
+    pub b : Sight
+    pub bv : Val
     pub inv : Inv choice (x .now) (y .now) w₀ w
     pub is : Is Wk w (v ∷ [])
+    pub sight-is : b ≡ sightOf (y .now) (w .day)
+    pub seen : Is Sg b (bv ∷ [])
 
   abbrev On : State → State → Type 0
   On t s = left (t .w) < left (s .w)
@@ -262,23 +272,30 @@ module _ {M : Type 1} (𝓤 : URA M) (H : Heap 𝓤) (A : Atoms 𝓤) (W : Given
   on-wf : WellFounded On
   on-wf = InvImage·wf (λ (s : State). left (s .w)) (Nat·lt-wfRel .wf)
 
-  start : Ready choice (x .now) w₀ → Is Wk w₀ (v₀ ∷ []) → State
-  start ready is₀ = record { w = w₀; v = v₀; inv = begins choice (x .now) (y .now) w₀ ready; is = is₀ }
+  start : Ready choice (x .now) w₀ → Is Wk w₀ (v₀ ∷ []) → (d : ℕ) (b : Sight) (bv : Val) → d ≡ w₀ .day → b ≡ sightOf (y .now) d → Is Sg b (bv ∷ []) → State
+  start ready is₀ d b bv day-is sight-is isb =
+      record { w = w₀; v = v₀; b = b; bv = bv; inv = begins choice (x .now) (y .now) w₀ ready; is = is₀; sight-is = sight-is ∙ ap (sightOf (y .now)) day-is; seen = isb }
 
-  -- what the list says of the walk's day d
-  module _ (s : State) (going : s .w .going ≡ true) (d : ℕ) (b : Sight) (day-is : d ≡ s .w .day) (sight-is : b ≡ sightOf (y .now) d) where
-    in-sight : Seen (y .now) (s .w .day) b
-    in-sight = let g = s .inv .at going .looks in seen-from (y .now) (s .w .day) (omega (arith, g .within, g .dated)) (sight-is ∙ ap (sightOf (y .now)) day-is)
+  module _ (s : State) (going : s .w .going ≡ true) where
+    in-sight : Seen (y .now) (s .w .day) (s .b)
+    in-sight = let g = s .inv .at going .looks in seen-from (y .now) (s .w .day) (omega (arith, g .within, g .dated)) (s .sight-is)
 
-  -- a step on
-  module _ (s : State) (going : s .w .going ≡ true) (d : ℕ) (b : Sight) (r : Walk) (v : Val) (day-is : d ≡ s .w .day) (sight-is : b ≡ sightOf (y .now) d) (went : Went choice (x .now) b (s .w) r) (is : Is Wk r (v ∷ [])) where
-    stepped : Inv choice (x .now) (y .now) w₀ r × (left r < left (s .w))
-    stepped = (goes-round choice (x .now) (y .now) w₀ (s .inv) going (in-sight s going d b day-is sight-is) went, went .less)
+    -- a step on
+    module _ (r : Walk) (v : Val) (went : Went choice (x .now) (s .b) (s .w) r) (is : Is Wk r (v ∷ [])) (d : ℕ) (b : Sight) (bv : Val) (day-is : d ≡ r .day) (on-is : b ≡ sightOn (y .now) d (s .b)) (isb : Is Sg b (bv ∷ [])) where
+      goes-on : State
+      goes-on =
+          record {
+            w = r;
+            v = v;
+            b = b;
+            bv = bv;
+            inv = goes-round choice (x .now) (y .now) w₀ (s .inv) going in-sight went;
+            is = is;
+            sight-is = sight-on (y .now) (s .w .day) (no-earlier choice (x .now) (y .now) w₀ (s .inv) going in-sight went) (s .sight-is) (on-is ∙ ap (λ (e : ℕ). sightOn (y .now) e (s .b)) day-is);
+            seen = isb;
+          }
 
-    goes-on : State
-    goes-on = record { w = r; v = v; inv = stepped .0; is = is }
-
-  module _ (𝓣 : Tables 𝓤 H) (known : Callees 𝓤 H A mem run (𝓣 .C)) (gc : choice < 2 ^ 32) (is₀ : Is Wk w₀ (v₀ ∷ [])) (l₀ l₁ l₂ l₃ l₄ l₅ l₆ l₇ l₈ : ℕ) where
+  module _ (𝓣 : Tables 𝓤 H) (known : Callees 𝓤 H A mem run (𝓣 .C)) (gc : choice < 2 ^ 32) (is₀ : Is Wk w₀ (v₀ ∷ [])) (l₀ l₁ l₂ l₃ l₄ l₅ l₆ l₇ l₈ l₉ : ℕ) where
     abbrev C : Calls 𝓤 H
     C = 𝓣 .C
 
@@ -286,59 +303,58 @@ module _ {M : Type 1} (𝓤 : URA M) (H : Heap 𝓤) (A : Atoms 𝓤) (W : Given
     Λ = 𝓣 .Λ
 
     abbrev En : Env 𝓤 H
-    En = (wk, l₀) ∷ (bytes, l₁) ∷ (tyInt w32, l₂) ∷ (slice, l₃) ∷ (wk, l₄) ∷ (wk, l₅) ∷ (tyBool, l₆) ∷ (sg, l₇) ∷ (tyInt w32, l₈) ∷ []
+    En = (wk, l₀) ∷ (bytes, l₁) ∷ (tyInt w32, l₂) ∷ (slice, l₃) ∷ (wk, l₄) ∷ (wk, l₅) ∷ (sg, l₆) ∷ (tyInt w32, l₇) ∷ (tyBool, l₈) ∷ (tyInt w32, l₉) ∷ []
 
-    -- the context at a state: _8, …, _0, each with its end; each token and what its slice owns
+    -- the context at a state: _9, …, _0, each with its end; each token and what its slice owns
     abbrev Stand : State → List (Item 𝓤)
-    Stand s = ‵ (froom (tyInt w32) l₈ 0) ∷ ‵ (fdies (tyInt w32) l₈) ∷ ‵ (froom sg l₇ 0) ∷ ‵ (fdies sg l₇) ∷ ‵ (froom tyBool l₆ 0) ∷ ‵ (fdies tyBool l₆)
-        ∷ ‵ (fat fullShare wk l₅ 0 (s .v)) ∷ ‵ (fdies wk l₅) ∷ ‵ (fat fullShare wk l₄ 0 v₀) ∷ ‵ (fdies wk l₄) ∷ ‵ (fat fullShare slice l₃ 0 yv) ∷ ‵ (fdies slice l₃)
+    Stand s = ‵ (froom (tyInt w32) l₉ 0) ∷ ‵ (fdies (tyInt w32) l₉) ∷ ‵ (froom tyBool l₈ 0) ∷ ‵ (fdies tyBool l₈) ∷ ‵ (froom (tyInt w32) l₇ 0) ∷ ‵ (fdies (tyInt w32) l₇)
+        ∷ ‵ (fat fullShare sg l₆ 0 (s .bv)) ∷ ‵ (fdies sg l₆) ∷ ‵ (fat fullShare wk l₅ 0 (s .v)) ∷ ‵ (fdies wk l₅) ∷ ‵ (fat fullShare wk l₄ 0 v₀) ∷ ‵ (fdies wk l₄) ∷ ‵ (fat fullShare slice l₃ 0 yv) ∷ ‵ (fdies slice l₃)
         ∷ ‵ (fat fullShare (tyInt w32) l₂ 0 (vint w32 choice)) ∷ ‵ (fdies (tyInt w32) l₂) ∷ ‵ (fat fullShare bytes l₁ 0 xv) ∷ ‵ (fdies bytes l₁) ∷ ‵ (froom wk l₀ 0) ∷ ‵ (fdies wk l₀)
         ∷ ‵ (flft κ q) ∷ ‵ Plan ∷ ‵ (flft κ′ q′) ∷ ‵ Lent ∷ []
 
     -- a turn ends with less left, or the loop is left and the rest of the body runs
     abbrev Turned : State → Out → SProp 𝓤
-    Turned s = afterTurn 𝓤 H (Below 𝓤 H A On Stand s) (afterBlock 𝓤 H (afterSeq 𝓤 H (Wp 𝓤 H C Λ En part.t-3 (atReturn 𝓤 H En Post′)) (atReturn 𝓤 H En Post′)))
+    Turned s = afterTurn 𝓤 H (Below 𝓤 H A On Stand s) (afterBlock 𝓤 H (afterSeq 𝓤 H (Wp 𝓤 H C Λ En part.t-5 (atReturn 𝓤 H En Post′)) (atReturn 𝓤 H En Post′)))
 
     turns : (s : State) → Sq W (Stand s) (runs C Λ En part.turn-1 (anyQ (Turned s)))
     unfolding afterTurn goes-on
     turns s =
         owned ! Wk (Is Wk) walk-makes (s .w) _ (s .is) $ use1 W (raw (IsGoing 𝓤 H A mem run .pre (to-going (s .w) (s .v)))) (asks-going (s .w) (s .v)) $
         calls-told ! (fmOf 𝓤 H (W .laws) 𝓣) (IsGoing 𝓤 H A mem run) (known .going-met) (to-going (s .w) (s .v)) bool (‵ ftrue) (said-going (s .w) (s .v)) (λ t. t ≡ s .w .going) (λ u. id⊢ 𝓤 _) (tells-going (s .w) (s .v))
-        (and-then ! (load ! (from ! (stop !)) (look ! 7 refl)) (no-more !)) (λ u t e is.
-        -- [the answer; true; _8; …; _0; …; a token; what plan owns; the other token; what pauses owns]
-        land ! (from ! (stop !)) (init ! 6 refl (bool-lawful 𝓤 H A W .typed t _ is .0)) $ drop ! $ drop ! $
-        rewrite ! 4 (λ (z : Val). ‵ (fat fullShare tyBool l₆ 0 z)) (ap only is ∙ ap vbool e) refl $
-        tests ! (load ! (from ! (stop !)) (look ! 4 refl))
+        (and-then ! (load ! (from ! (stop !)) (look ! 9 refl)) (no-more !)) (λ u t e is.
+        -- [the answer; true; _9; …; _0; …; a token; what plan owns; the other token; what pauses owns]
+        land ! (from ! (stop !)) (init ! 4 refl (bool-lawful 𝓤 H A W .typed t _ is .0)) $ drop ! $ drop ! $
+        rewrite ! 2 (λ (z : Val). ‵ (fat fullShare tyBool l₈ 0 z)) (ap only is ∙ ap vbool e) refl $
+        tests ! (load ! (from ! (stop !)) (look ! 2 refl))
         (λ goes.
         let going : s .w .going ≡ true = is-true (s .w .going) goes in
-        owned ! Wk (Is Wk) walk-makes (s .w) _ (s .is) $ use1 W (raw (DayOf 𝓤 H A mem run .pre (to-day (s .w) (s .v)))) (asks-day (s .w) (s .v)) $
-        calls-told ! (fmOf 𝓤 H (W .laws) 𝓣) (DayOf 𝓤 H A mem run) (known .day-met) (to-day (s .w) (s .v)) u32 (‵ ftrue) (said-day (s .w) (s .v)) (λ d. d ≡ s .w .day) (λ u. id⊢ 𝓤 _) (tells-day (s .w) (s .v))
-        (and-then ! (load ! (from ! (stop !)) (look ! 7 refl)) (no-more !)) (λ u d day-is is₂.
-        land ! (from ! (stop !)) (init ! 2 refl (uint-lawful 𝓤 H A W w32 .typed d _ is₂ .0)) $ drop ! $ drop ! $
-        rewrite ! 0 (λ (z : Val). ‵ (fat fullShare (tyInt w32) l₈ 0 z)) (ap only (is₂ .0)) refl $
-        -- [_8; …; _0; …; a token; what plan owns; the other token; what pauses owns]
-        move ! (21 ∷ 20 ∷ []) $ use1 W (‵ Lent ⊛ ‵ Lent) (shr-slice-copy 𝓤 H A W (named 1) κ′ One .twice y (yv ∷ [])) $ split ! $ move ! (2 ∷ 0 ∷ []) $
-        use2 W (raw (SightFrom 𝓤 H A mem run .pre (to-sight d))) (asks-sight d (is₂ .1)) $
-        calls-told ! (fmOf 𝓤 H (W .laws) 𝓣) (SightFrom 𝓤 H A mem run) (known .sight-met) (to-sight d) Sg tok′ (said-sight d) (λ b. b ≡ sightOf (y .now) d) (λ u. id⊢ 𝓤 _) (tells-sight d)
-        (and-then ! (load ! (from ! (stop !)) (look ! 12 refl)) (and-then ! (load ! (from ! (stop !)) (look ! 2 refl)) (no-more !))) (λ bv b sight-is is₃.
-        -- [the answer; the other token; what pauses owns; _8; …; _0; …; a token; what plan owns]
-        land ! (from ! (stop !)) (init ! 5 refl (seen-typed 𝓤 H A W b bv is₃)) $ drop ! $ split ! $
-        -- [the other token; true; what pauses owns; _8; …; _0; …; a token; what plan owns]
-        move ! (22 ∷ []) $ use1 W (‵ Plan ⊛ ‵ Plan) (shr-slice-copy 𝓤 H A W (named 0) κ u8 .twice x (xv ∷ [])) $ split ! $ move ! (23 ∷ 0 ∷ []) $
-        use2 W (raw (Step 𝓤 H A mem run .pre (to-step (s .w) (s .v) b bv))) (asks-step (s .w) (s .v) b bv gc (s .is) is₃ (s .inv .at going, in-sight s going d b day-is sight-is .reached)) $
-        -- [what `step` asks; what plan owns; the other token; true; what pauses owns; _8; …; _0; …]
-        calls-told-last ! (fmOf 𝓤 H (W .laws) 𝓣) (Step 𝓤 H A mem run) (known .step-met) (to-step (s .w) (s .v) b bv) Wk tok (said-step (s .w) (s .v) b bv) (λ r. Went choice (x .now) b (s .w) r) (λ u. id⊢ 𝓤 _) (tells-step (s .w) (s .v) b bv)
-        (and-then ! (load ! (from ! (stop !)) (look ! 19 refl)) (and-then ! (load ! (from ! (stop !)) (look ! 17 refl)) (and-then ! (load ! (from ! (stop !)) (look ! 11 refl)) (and-then ! (load ! (from ! (stop !)) (look ! 7 refl)) (no-more !))))) (λ u r went is₄.
-        -- [what the walk owns; a token; what plan owns; the other token; true; what pauses owns; _8; …; _0; …]
-        land-last ! (from ! (stop !)) (store ! 12 refl (walk-typed r u is₄)) $ drop ! $ split ! $ forget ! 6 refl $ forget ! 8 refl $ forget ! 10 refl $
-        -- [a token; true; what plan owns; the other token; true; what pauses owns; _8; …; _0; …]
-        keep ! (6 ∷ 7 ∷ 8 ∷ 9 ∷ 10 ∷ 11 ∷ 12 ∷ 13 ∷ 14 ∷ 15 ∷ 16 ∷ 17 ∷ 18 ∷ 19 ∷ 20 ∷ 21 ∷ 22 ∷ 23 ∷ 0 ∷ 2 ∷ 3 ∷ 5 ∷ []) $
-        again ! On Stand s (goes-on s going d b r u day-is sight-is went is₄) (stepped s going d b r u day-is sight-is went is₄ .1)))))
+        -- [_9; …; _0; …; a token; what plan owns; the other token; what pauses owns]
+        move ! (21 ∷ 20 ∷ []) $ use1 W (‵ Plan ⊛ ‵ Plan) (shr-slice-copy 𝓤 H A W (named 0) κ u8 .twice x (xv ∷ [])) $ split ! $ move ! (2 ∷ 0 ∷ []) $
+        use2 W (raw (Step 𝓤 H A mem run .pre (to-step (s .w) (s .v) (s .b) (s .bv)))) (asks-step (s .w) (s .v) (s .b) (s .bv) gc (s .is) (s .seen) (s .inv .at going, in-sight s going .reached)) $
+        calls-told ! (fmOf 𝓤 H (W .laws) 𝓣) (Step 𝓤 H A mem run) (known .step-met) (to-step (s .w) (s .v) (s .b) (s .bv)) Wk tok (said-step (s .w) (s .v) (s .b) (s .bv)) (λ r. Went choice (x .now) (s .b) (s .w) r) (λ u. id⊢ 𝓤 _) (tells-step (s .w) (s .v) (s .b) (s .bv))
+        (and-then ! (load ! (from ! (stop !)) (look ! 18 refl)) (and-then ! (load ! (from ! (stop !)) (look ! 16 refl)) (and-then ! (load ! (from ! (stop !)) (look ! 10 refl)) (and-then ! (load ! (from ! (stop !)) (look ! 8 refl)) (no-more !))))) (λ v r went is₂.
+        -- [what the walk owns; a token; what plan owns; _9; …; _0; …; the other token; what pauses owns]
+        land ! (from ! (stop !)) (store ! 11 refl (walk-typed r v is₂)) $ drop ! $ split ! $
+        keep ! (3 ∷ 4 ∷ 5 ∷ 6 ∷ 7 ∷ 8 ∷ 9 ∷ 10 ∷ 11 ∷ 12 ∷ 13 ∷ 14 ∷ 15 ∷ 16 ∷ 17 ∷ 18 ∷ 19 ∷ 20 ∷ 21 ∷ 22 ∷ 0 ∷ 2 ∷ 23 ∷ 24 ∷ []) $
+        owned ! Wk (Is Wk) walk-makes r _ is₂ $ use1 W (raw (DayOf 𝓤 H A mem run .pre (to-day r v))) (asks-day r v) $
+        calls-told ! (fmOf 𝓤 H (W .laws) 𝓣) (DayOf 𝓤 H A mem run) (known .day-met) (to-day r v) u32 (‵ ftrue) (said-day r v) (λ d. d ≡ r .day) (λ u. id⊢ 𝓤 _) (tells-day r v)
+        (and-then ! (load ! (from ! (stop !)) (look ! 9 refl)) (no-more !)) (λ u d day-is is₃.
+        land ! (from ! (stop !)) (init ! 2 refl (uint-lawful 𝓤 H A W w32 .typed d _ is₃ .0)) $ drop ! $ drop ! $
+        rewrite ! 0 (λ (z : Val). ‵ (fat fullShare (tyInt w32) l₉ 0 z)) (ap only (is₃ .0)) refl $
+        -- [_9; …; _0; …; a token; what plan owns; the other token; what pauses owns]
+        move ! (23 ∷ 22 ∷ []) $ use1 W (‵ Lent ⊛ ‵ Lent) (shr-slice-copy 𝓤 H A W (named 1) κ′ One .twice y (yv ∷ [])) $ split ! $ move ! (2 ∷ 0 ∷ []) $
+        use2 W (raw (SightOn 𝓤 H A mem run .pre (to-on d (s .b) (s .bv)))) (asks-on d (s .b) (s .bv) (is₃ .1) (s .seen)) $
+        calls-told-last ! (fmOf 𝓤 H (W .laws) 𝓣) (SightOn 𝓤 H A mem run) (known .on-met) (to-on d (s .b) (s .bv)) Sg tok′ (said-on d (s .b) (s .bv)) (λ b. b ≡ sightOn (y .now) d (s .b)) (λ u. id⊢ 𝓤 _) (tells-on d (s .b) (s .bv))
+        (and-then ! (load ! (from ! (stop !)) (look ! 14 refl)) (and-then ! (load ! (from ! (stop !)) (look ! 2 refl)) (and-then ! (load ! (from ! (stop !)) (look ! 8 refl)) (no-more !)))) (λ bv b on-is is₄.
+        -- [the answer; the other token; what pauses owns; _9; …; _0; …; a token; what plan owns]
+        land-last ! (from ! (stop !)) (store ! 9 refl (seen-typed 𝓤 H A W b bv is₄)) $ drop ! $ split ! $ forget ! 3 refl $ forget ! 5 refl $
+        keep ! (3 ∷ 4 ∷ 5 ∷ 6 ∷ 7 ∷ 8 ∷ 9 ∷ 10 ∷ 11 ∷ 12 ∷ 13 ∷ 14 ∷ 15 ∷ 16 ∷ 17 ∷ 18 ∷ 19 ∷ 20 ∷ 21 ∷ 22 ∷ 23 ∷ 24 ∷ 0 ∷ 2 ∷ []) $
+        again ! On Stand s (goes-on s going r v went is₂ d b bv day-is on-is is₄) (went .less)))))
         (λ over.
-        exec ! C Λ En part.t-3 (atRet En Post′) $
-        assigns ! (of-opd ! (load ! (from ! (stop !)) (look ! 6 refl))) (from ! (stop !)) (init ! 16 refl (walk-typed (s .w) (s .v) (s .is))) $
-        returns ! (look ! 16 refl) $ forget ! 4 refl $ forget ! 6 refl $ forget ! 8 refl $ forget ! 10 refl $ forget ! 12 refl $ forget ! 14 refl $ forget ! 16 refl $
-        move ! (16 ∷ 17 ∷ []) $ free1 ! $ move ! (14 ∷ 15 ∷ []) $ free1 ! $ move ! (12 ∷ 13 ∷ []) $ free1 ! $ move ! (10 ∷ 11 ∷ []) $ free1 ! $ move ! (8 ∷ 9 ∷ []) $ free1 ! $ move ! (6 ∷ 7 ∷ []) $ free1 ! $ move ! (4 ∷ 5 ∷ []) $ free1 ! $ move ! (2 ∷ 3 ∷ []) $ free1 ! $ free1 ! $ free0 ! $
+        exec ! C Λ En part.t-5 (atRet En Post′) $
+        assigns ! (of-opd ! (load ! (from ! (stop !)) (look ! 8 refl))) (from ! (stop !)) (init ! 18 refl (walk-typed (s .w) (s .v) (s .is))) $
+        returns ! (look ! 18 refl) $ forget ! 2 refl $ forget ! 6 refl $ forget ! 8 refl $ forget ! 10 refl $ forget ! 12 refl $ forget ! 14 refl $ forget ! 16 refl $ forget ! 18 refl $
+        move ! (18 ∷ 19 ∷ []) $ free1 ! $ move ! (16 ∷ 17 ∷ []) $ free1 ! $ move ! (14 ∷ 15 ∷ []) $ free1 ! $ move ! (12 ∷ 13 ∷ []) $ free1 ! $ move ! (10 ∷ 11 ∷ []) $ free1 ! $ move ! (8 ∷ 9 ∷ []) $ free1 ! $ move ! (6 ∷ 7 ∷ []) $ free1 ! $ move ! (4 ∷ 5 ∷ []) $ free1 ! $ move ! (2 ∷ 3 ∷ []) $ free1 ! $ free1 ! $ free0 ! $
         by ! (exits gc is₀ (s .w) (s .v) (ends choice (x .now) (y .now) w₀ (s .inv) (is-false (s .w .going) over)) (s .is))))
 
   -- the MIR up to the loop
@@ -347,15 +363,27 @@ module _ {M : Type 1} (𝓤 : URA M) (H : Heap 𝓤) (A : Atoms 𝓤) (W : Given
   unfolding start
   walk 𝓣 known gx gc gy is₀ ready =
       qed W ((‵ (flft κ q) ⊛ tok′) ∷ ‵ (owns (ShrSlice (named 0) κ u8 ∷ u32 ∷ ShrSlice (named 1) κ′ One ∷ Wk ∷ []) args at) ∷ []) ∵ enter ! (𝓣 .C) (𝓣 .Λ) code.function (xv ∷ vint w32 choice ∷ yv ∷ v₀ ∷ []) _ $
-      alloc1 ! (λ l₀. alloc1 ! (λ l₁. alloc1 ! (λ l₂. alloc1 ! (λ l₃. alloc1 ! (λ l₄. alloc1 ! (λ l₅. alloc1 ! (λ l₆. alloc1 ! (λ l₇. alloc1 ! (λ l₈. alloc0 ! $ params1 ! $
-      pass1 ! (init ! 14 refl (tt, (tt, (record { fits = gx .0 }, tt)))) $ pass1 ! (init ! 12 refl (tt, record { fits = gc })) $ pass1 ! (init ! 10 refl (tt, (tt, (record { fits = gy .0 }, tt)))) $ pass1 ! (init ! 8 refl (walk-typed w₀ v₀ is₀)) $ pass0 ! $
-      assigns ! (of-opd ! (load ! (from ! (stop !)) (look ! 8 refl))) (from ! (stop !)) (init ! 6 refl (walk-typed w₀ v₀ is₀)) $
-      move ! (19 ∷ []) $ fsplit ! $ move ! (1 ∷ []) $ fsplit ! $ drop ! $ fsplit ! $ move ! (1 ∷ []) $ drop ! $
-      -- [what pauses owns; what plan owns; _8; …; _0; …; the tokens]
-      move ! (20 ∷ []) $ split ! $ move ! (1 ∷ []) $ split ! $
-      -- [the other token; true; a token; what pauses owns; what plan owns; _8; …; _0; …]
-      keep ! (5 ∷ 6 ∷ 7 ∷ 8 ∷ 9 ∷ 10 ∷ 11 ∷ 12 ∷ 13 ∷ 14 ∷ 15 ∷ 16 ∷ 17 ∷ 18 ∷ 19 ∷ 20 ∷ 21 ∷ 22 ∷ 2 ∷ 4 ∷ 0 ∷ 3 ∷ []) $
-      first ! $ blocks ! $ loops ! 𝓣 On on-wf (Stand 𝓣 known gc is₀ l₀ l₁ l₂ l₃ l₄ l₅ l₆ l₇ l₈) (turns 𝓣 known gc is₀ l₀ l₁ l₂ l₃ l₄ l₅ l₆ l₇ l₈) (start ready is₀))))))))))
+      alloc1 ! (λ l₀. alloc1 ! (λ l₁. alloc1 ! (λ l₂. alloc1 ! (λ l₃. alloc1 ! (λ l₄. alloc1 ! (λ l₅. alloc1 ! (λ l₆. alloc1 ! (λ l₇. alloc1 ! (λ l₈. alloc1 ! (λ l₉. alloc0 ! $ params1 ! $
+      pass1 ! (init ! 16 refl (tt, (tt, (record { fits = gx .0 }, tt)))) $ pass1 ! (init ! 14 refl (tt, record { fits = gc })) $ pass1 ! (init ! 12 refl (tt, (tt, (record { fits = gy .0 }, tt)))) $ pass1 ! (init ! 10 refl (walk-typed w₀ v₀ is₀)) $ pass0 ! $
+      assigns ! (of-opd ! (load ! (from ! (stop !)) (look ! 10 refl))) (from ! (stop !)) (init ! 8 refl (walk-typed w₀ v₀ is₀)) $
+      move ! (21 ∷ []) $ fsplit ! $ move ! (1 ∷ []) $ fsplit ! $ drop ! $ fsplit ! $ move ! (1 ∷ []) $ drop ! $
+      -- [what pauses owns; what plan owns; _9; …; _0; …; the tokens]
+      move ! (22 ∷ []) $ split ! $ move ! (1 ∷ []) $ split ! $
+      -- [the other token; true; a token; what pauses owns; what plan owns; _9; …; _0; …]
+      keep ! (5 ∷ 6 ∷ 7 ∷ 8 ∷ 9 ∷ 10 ∷ 11 ∷ 12 ∷ 13 ∷ 14 ∷ 15 ∷ 16 ∷ 17 ∷ 18 ∷ 19 ∷ 20 ∷ 21 ∷ 22 ∷ 23 ∷ 24 ∷ 2 ∷ 4 ∷ 0 ∷ 3 ∷ []) $
+      owned ! Wk (Is Wk) walk-makes w₀ _ is₀ $ use1 W (raw (DayOf 𝓤 H A mem run .pre (to-day w₀ v₀))) (asks-day w₀ v₀) $
+      calls-told ! (fmOf 𝓤 H (W .laws) 𝓣) (DayOf 𝓤 H A mem run) (known .day-met) (to-day w₀ v₀) u32 (‵ ftrue) (said-day w₀ v₀) (λ d. d ≡ w₀ .day) (λ u. id⊢ 𝓤 _) (tells-day w₀ v₀)
+      (and-then ! (load ! (from ! (stop !)) (look ! 9 refl)) (no-more !)) (λ u d day-is is.
+      land ! (from ! (stop !)) (init ! 6 refl (uint-lawful 𝓤 H A W w32 .typed d _ is .0)) $ drop ! $ drop ! $
+      rewrite ! 4 (λ (z : Val). ‵ (fat fullShare (tyInt w32) l₇ 0 z)) (ap only (is .0)) refl $
+      -- [_9; …; _0; …; a token; what plan owns; the other token; what pauses owns]
+      move ! (23 ∷ 22 ∷ []) $
+      calls-sight-from 𝓤 H A mem run κ′ q′ y d ! (fmOf 𝓤 H (W .laws) 𝓣) (known .sight-met) (is .1)
+      (and-then ! (load ! (from ! (stop !)) (look ! 14 refl)) (and-then ! (load ! (from ! (stop !)) (look ! 6 refl)) (no-more !))) (λ bv b sight-is is₂.
+      -- [the answer; the other token; what pauses owns; _9; …; _0; …; a token; what plan owns]
+      land ! (from ! (stop !)) (init ! 9 refl (seen-typed 𝓤 H A W b bv is₂)) $ drop ! $ split ! $ forget ! 7 refl $
+      keep ! (3 ∷ 4 ∷ 5 ∷ 6 ∷ 7 ∷ 8 ∷ 9 ∷ 10 ∷ 11 ∷ 12 ∷ 13 ∷ 14 ∷ 15 ∷ 16 ∷ 17 ∷ 18 ∷ 19 ∷ 20 ∷ 21 ∷ 22 ∷ 23 ∷ 24 ∷ 0 ∷ 2 ∷ []) $
+      first ! $ blocks ! $ loops ! 𝓣 On on-wf (Stand 𝓣 known gc is₀ l₀ l₁ l₂ l₃ l₄ l₅ l₆ l₇ l₈ l₉) (turns 𝓣 known gc is₀ l₀ l₁ l₂ l₃ l₄ l₅ l₆ l₇ l₈ l₉) (start ready is₀ d b bv day-is sight-is is₂)))))))))))))
 
 module _ {M : Type 1} (𝓤 : URA M) (H : Heap 𝓤) (A : Atoms 𝓤) (W : Given 𝓤 H A) (mem : Memory → SProp 𝓤) (run : Routine → Fun 𝓤) (𝓣 : Tables 𝓤 H) (known : Callees 𝓤 H A mem run (𝓣 .C)) where
   walks : Walks 𝓤 H A f.ended stayed (WpFn 𝓤 H (𝓣 .C) (𝓣 .Λ) code.function) (f.clauses 𝓤 H A mem run)
@@ -380,5 +408,6 @@ walked-spec 𝓤 H 𝓜 𝓖 𝓡 =
       going-met = cited 𝓤 H (IsGoing 𝓤 H (𝓖 .A) (𝓜 .mem) (𝓡 .run)) 𝓜 𝓡 code.env #supply·walk·is-going going-def.routine code.calls-supply·walk·is-going (going-thm.met 𝓤 H 𝓜 𝓖 𝓡);
       day-met = cited 𝓤 H (DayOf 𝓤 H (𝓖 .A) (𝓜 .mem) (𝓡 .run)) 𝓜 𝓡 code.env #supply·walk·day-of day-def.routine code.calls-supply·walk·day-of (day-thm.met 𝓤 H 𝓜 𝓖 𝓡);
       sight-met = cited 𝓤 H (SightFrom 𝓤 H (𝓖 .A) (𝓜 .mem) (𝓡 .run)) 𝓜 𝓡 code.env #pause·lent·sight-from sight-def.routine code.calls-pause·sight-from (sight-thm.met 𝓤 H 𝓜 𝓖 𝓡);
+      on-met = cited 𝓤 H (SightOn 𝓤 H (𝓖 .A) (𝓜 .mem) (𝓡 .run)) 𝓜 𝓡 code.env #pause·lent·sight-on on-def.routine code.calls-pause·sight-on (on-thm.met 𝓤 H 𝓜 𝓖 𝓡);
       step-met = cited 𝓤 H (Step 𝓤 H (𝓖 .A) (𝓜 .mem) (𝓡 .run)) 𝓜 𝓡 code.env #supply·walk·step step-def.routine code.calls-supply·walk·step (step-thm.met 𝓤 H 𝓜 𝓖 𝓡);
     })

@@ -1,7 +1,7 @@
 use mathlib.Core.Path.{sym, _∙_}
 use borrow.Author.Needs.{needs}
-use Rattle.need.proofs.stopping.is_counted.Statement.{statement}
-use Rattle.need.proofs.stopping.is_counted.Tie as tie
+use Rattle.need.proofs.stopping.is_told.Statement.{statement}
+use Rattle.need.proofs.stopping.is_told.Tie as tie
 
 is-period-requires : tie.Need-is-period-requires
 is-period-requires c κs = search needs
@@ -15,5 +15,5 @@ returns c = rw (sym (c .before .before .is-period .ensures) ∙ c .before .if1 .
 returns-2 : tie.Need-returns-2
 returns-2 c = rw (sym (c .before .is-period .ensures) ∙ c .if1 .left)
 
-pub is-counted-spec : {M : Type 1} → statement M
-is-counted-spec = tie.close (tie.spec is-period-requires is-odd-requires returns returns-2)
+pub is-told-spec : {M : Type 1} → statement M
+is-told-spec = tie.close (tie.spec is-period-requires is-odd-requires returns returns-2)

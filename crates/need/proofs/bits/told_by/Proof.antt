@@ -9,8 +9,8 @@ use Rattle.plan.specs.Periods.{blocksOf}
 use Rattle.need.specs.Need.{choiceOf}
 use Rattle.need.specs.Telling.{bitsFrom}
 use Rattle.need.proofs.Telling.{down-none, down-fits, down-more, down-all}
-use Rattle.need.proofs.bits.counted_by.Statement.{statement}
-use Rattle.need.proofs.bits.counted_by.Tie as tie
+use Rattle.need.proofs.bits.told_by.Statement.{statement}
+use Rattle.need.proofs.bits.told_by.Tie as tie
 
 -- which blocks count by a choice, and the bits of those from b on
 abbrev counts : List ℕ → ℕ → ℕ → Bool
@@ -81,8 +81,8 @@ returns c =
     let needed = down-all (counts (a .t2) 4) n (l .b) (l .inv .3) z in
     λ i. record { fixed = fixed i; dosed = dosed i; needed = needed i }
 
-pub counted-by-spec : {M : Type 1} → statement M
-counted-by-spec =
+pub told-by-spec : {M : Type 1} → statement M
+told-by-spec =
     tie.close
     (tie.spec
     Inv-loop
