@@ -1,4 +1,6 @@
 // The block, by document 01: 512 bytes, numbers least byte first, two sums at the end.
+#![tactic(auto)]
+
 mod read;
 mod summing;
 mod write;
@@ -11,14 +13,14 @@ pub use write::{clear, put_bytes, put_half, put_long, put_word};
 pub const SIZE: usize = 512;
 
 // A block's two sums.
-#[derive(Drop)]
+#[derive(Clone, Copy)]
 pub struct Sums {
     pub first: u32,
     pub second: u32,
 }
 
 // Three 64-bit numbers.
-#[derive(Drop)]
+#[derive(Clone, Copy)]
 pub struct Longs {
     pub first: u64,
     pub second: u64,

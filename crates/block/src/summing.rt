@@ -22,7 +22,7 @@ const WORDS: usize = 6;
 const TURNS: usize = 21;
 
 // The sums of each turn's words by themselves.
-#[derive(Drop)]
+#[derive(Clone, Copy)]
 struct Turns {
     first: [u32; 21],
     second: [u32; 21],

@@ -1,5 +1,7 @@
 // Judges each plan of standard input, and writes its number and place. A plan stands behind its length, four bytes. The
 // plans and what document 01 says of them are made by tests/cases.py.
+#![tactic(auto)]
+
 use block::word_at;
 use verdict::{refusal_of, verdict};
 

@@ -1,5 +1,7 @@
 // Reads a plan on standard input, and writes its verdict and the periods of its two parts. Where the input cannot be read, or the
 // answer not be written whole, it says so on standard error: a program has no status to end with, so `run` looks there.
+#![tactic(auto)]
+
 ghost use Rattle.io.specs.Counts.{IsPrefixLen};
 
 use day::{Date, Day, Shown, date_of};
@@ -95,7 +97,7 @@ fn answer(plan: &[u8]) -> bool {
 }
 
 // What was read: how many bytes stand at the buffer's start, and whether no read failed.
-#[derive(Drop)]
+#[derive(Clone, Copy)]
 struct Input {
     length: usize,
     whole: bool,

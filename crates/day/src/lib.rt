@@ -1,4 +1,6 @@
 // Days, by document 01: a day is a number of the calendar from 2000-01-01 to 2199-12-31, and may be shown as a date.
+#![tactic(auto)]
+
 mod calendar;
 mod table;
 
@@ -8,13 +10,13 @@ ghost use Rattle.day.specs.Days.{first_number, last_number, open_mark, is_day, c
 pub use calendar::{date_of, day_of};
 
 // A day by its number, or the open mark.
-#[derive(Drop)]
+#[derive(Clone, Copy)]
 pub struct Day {
     pub number: u32,
 }
 
 // A day by its year, its month from 1 and its day of the month from 1.
-#[derive(Drop)]
+#[derive(Clone, Copy)]
 pub struct Date {
     pub year: u32,
     pub month: u32,
@@ -22,14 +24,14 @@ pub struct Date {
 }
 
 // The day that a date names.
-#[derive(Drop)]
+#[derive(Clone, Copy)]
 pub enum Named {
     On(Day),
     NoDate,
 }
 
 // The date that a day shows as.
-#[derive(Drop)]
+#[derive(Clone, Copy)]
 pub enum Shown {
     As(Date),
     NoDay,

@@ -1,4 +1,6 @@
 // A day's doses, by document 01: which doses of a plan apply on a day, and their four sums.
+#![tactic(auto)]
+
 ghost use Rattle.std.specs.Prelude.{◌≡◌, ◌-◌, ◌<◌, min};
 ghost use Rattle.plan.specs.Fields.{header_of};
 ghost use Rattle.doses.specs.Doses.{covers, position_of, applies, doses_of_period, grown, added, added_all, day_sums};

@@ -1,4 +1,6 @@
 // Rules 1 to 4: the form of a plan's bytes, under a length limit: a plan has at most 32 blocks, a part of a split one 64.
+#![tactic(auto)]
+
 mod block_form;
 mod order;
 
@@ -10,7 +12,7 @@ pub const PLAN_LIMIT: u16 = 16384;
 pub const PART_LIMIT: u16 = 32768;
 
 // Rules 1 to 4 hold, or the first that is broken, with its place.
-#[derive(Drop)]
+#[derive(Clone, Copy)]
 pub enum Form {
     Right,
     Broken(Refusal),

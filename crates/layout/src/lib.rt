@@ -1,6 +1,8 @@
 // What a plan's bytes are made of: its head and its periods, and how they are read from the bytes. How they are laid out in
 // blocks stands in specs/Layout.antt; that reading is the inverse of laying out, and laying out that of reading, in
 // proofs/.
+#![tactic(auto)]
+
 ghost use Rattle.std.specs.Prelude.{◌≡◌};
 ghost use Rattle.layout.specs.Reading.{head_of, header_at};
 

@@ -1,5 +1,7 @@
 // The need of a day, by document 01: which doses count by a choice, and by which amount, their sum on a day, and the day on which
 // the choice stops.
+#![tactic(auto)]
+
 mod bits;
 mod choice;
 mod due;
@@ -11,7 +13,7 @@ pub use due::due_on;
 pub use stopping::stop_of;
 
 // The stop day, if there is one.
-#[derive(Drop)]
+#[derive(Clone, Copy)]
 pub struct Stop {
     pub any: bool,
     pub day: u32,
@@ -19,7 +21,7 @@ pub struct Stop {
 
 // Which periods count, a bit for each block: by choices 1 and 2 the fixed and mixed ones, by 3 those with doses, by 4 the need and mixed
 // ones.
-#[derive(Drop)]
+#[derive(Clone, Copy)]
 pub struct Told {
     pub fixed: u32,
     pub dosed: u32,

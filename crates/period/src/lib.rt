@@ -1,5 +1,7 @@
 // Rules 5 to 14, by document 01: what one period may break, found exactly in one pass over its doses. Nothing is asked of
 // the bytes.
+#![tactic(auto)]
+
 mod finish;
 mod header;
 mod quick;
@@ -19,7 +21,7 @@ use quick::glance;
 use walk::walk_doses;
 
 // What was found of a period: its lowest broken rule from 5 to 14, or 15, and its class.
-#[derive(Drop)]
+#[derive(Clone, Copy)]
 pub struct Judged {
     pub rule: u8,
     pub class: u8,

@@ -16,7 +16,7 @@ use plan::{Dose, block_of, dose_at, dose_in, is_marked};
 
 // What the pass keeps of the doses that it has passed. It looks at nothing but the dose ahead, and ends with the first dose that is
 // out of turn.
-#[derive(Drop)]
+#[derive(Clone, Copy)]
 pub(crate) struct Quick {
     // the rank of the last dose; before the first it is 0, which only an unmarked dose of day number 0 has, and rule 8 refuses that
     pub rank: u64,
@@ -205,7 +205,7 @@ fn are_apart(plan: &[u8], b: u8, n: u16) -> bool
 
 // What was seen of a period: that it breaks none of rules 7 to 14, which is certain where it is true; and then how many of its
 // doses have a need mark.
-#[derive(Drop)]
+#[derive(Clone, Copy)]
 pub(crate) struct View {
     pub fine: bool,
     pub marked: u64,

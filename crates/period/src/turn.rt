@@ -7,7 +7,7 @@ ghost use Rattle.period.specs.Code.Turn.{rank_of, from_of, is_crowded, is_other,
 use plan::{Dose, is_marked, upper_of};
 
 // What the pass keeps of the doses that it has passed.
-#[derive(Drop)]
+#[derive(Clone, Copy)]
 pub(crate) struct Walk {
     // the last day number, and the index of the first dose of its day
     pub day: u16,

@@ -1,5 +1,7 @@
 // The plan, by document 01: a head, periods and their doses, read from the plan's bytes. Nothing is asked of the bytes:
 // what lies past their end reads as 0.
+#![tactic(auto)]
+
 mod fields;
 mod periods;
 mod records;
@@ -17,7 +19,7 @@ pub use records::{
 };
 
 // A dose record.
-#[derive(Drop)]
+#[derive(Clone, Copy)]
 pub struct Dose {
     pub day: u16,
     pub kind: u8,
@@ -28,14 +30,14 @@ pub struct Dose {
 }
 
 // A dose record as it is read: its dose, and the bytes that no field has.
-#[derive(Drop)]
+#[derive(Clone, Copy)]
 pub struct Opened {
     pub dose: Dose,
     pub spare: u16,
 }
 
 // A head without its count and sums.
-#[derive(Drop)]
+#[derive(Clone, Copy)]
 pub struct Head {
     pub unit: u16,
     pub start: u32,
@@ -46,7 +48,7 @@ pub struct Head {
 }
 
 // What a period's first block says of it. Of a head, the two days are the treatment's.
-#[derive(Drop)]
+#[derive(Clone, Copy)]
 pub struct Header {
     pub interval: u16,
     pub first: u32,

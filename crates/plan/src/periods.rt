@@ -92,7 +92,7 @@ fn class_by_doses(plan: &[u8], b: u8, n: u16) -> u8
 }
 
 // Are there unmarked doses, and marked ones?
-#[derive(Drop)]
+#[derive(Clone, Copy)]
 struct Marks {
     unmarked: bool,
     marked: bool,

@@ -73,7 +73,7 @@ pub(crate) fn plan_in(slot: &[u8]) -> &[u8]
 }
 
 // What stands in a slot that holds a plan: the plan's revision and its signers.
-#[derive(Drop)]
+#[derive(Clone, Copy)]
 pub(crate) struct Holding {
     pub revision: u32,
     pub first: u32,

@@ -1,4 +1,6 @@
 // The calls of the C approval screen. include/chivetassel.h declares them.
+#![tactic(auto)]
+
 ghost use Rattle.std.specs.Prelude.{◌≡◌, true, false, cond, [], ◌∷◌};
 ghost use Rattle.verdict.specs.Verdict.{verdict_of, code_of_answer};
 ghost use Rattle.doses.specs.Doses.{day_sums};

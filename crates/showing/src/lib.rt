@@ -1,4 +1,6 @@
 // Showing a day, by document 01: the blocks of a part's first period that has the day.
+#![tactic(auto)]
+
 ghost use Rattle.std.specs.Prelude.{◌≡◌, ◌+◌, ◌≤◌, length, take, drop};
 ghost use Rattle.form.specs.Code.Whole.{Whole};
 ghost use Rattle.showing.specs.Showing.{nothing, first_covering, blocks_shown, shown_in, stretch_of, shown};
@@ -8,7 +10,7 @@ use form::{Form, PART_LIMIT, form_of};
 use plan::more_blocks;
 
 // A stretch of a part: where it begins, and how many bytes it has.
-#[derive(Drop)]
+#[derive(Clone, Copy)]
 pub struct Stretch {
     pub at: u32,
     pub length: u32,

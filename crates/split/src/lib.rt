@@ -1,4 +1,6 @@
 // Split, by document 01: a plan into its fixed and its as-needed part.
+#![tactic(auto)]
+
 mod copying;
 mod part;
 
@@ -16,13 +18,13 @@ use refusal::Refusal;
 use verdict::{Answer, refusal_of, verdict_with_classes};
 
 // The lengths of the two parts, in bytes.
-#[derive(Drop)]
+#[derive(Clone, Copy)]
 pub struct Lengths {
     pub fixed: u32,
     pub need: u32,
 }
 
-#[derive(Drop)]
+#[derive(Clone, Copy)]
 pub enum Parted {
     Parts(Lengths),
     Refused(Refusal),

@@ -1,4 +1,6 @@
 // P14 of document 01 on real bytes, and how it goes on: standard input holds revisions 4 and 5 of one plan, two blocks each.
+#![tactic(auto)]
+
 use block::byte_at;
 use refusal::Refusal;
 use register::{clear, drop_plan, release, sign, state_of, submit};

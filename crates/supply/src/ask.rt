@@ -14,7 +14,7 @@ const PACK_LIMIT: u64 = 1000000000000;
 
 // Refused, whatever the choice; or a start day and a pack, and which of the plan's periods count by each choice. A set of dates does not
 // ask for every choice: for 2 only where `upper` says so, for 3 and 4 only where `needed` does.
-#[derive(Drop)]
+#[derive(Clone, Copy)]
 pub(crate) struct Asked {
     pub refused: bool,
     pub upper: bool,

@@ -1,4 +1,6 @@
 // Supply, by document 01: how far a pack lasts, in whole rounds where it can be (document 02, W12); and the set of dates of W1.
+#![tactic(auto)]
+
 mod ask;
 mod begin;
 mod lent;
@@ -19,7 +21,7 @@ pub use packed::{dates_packed, supply_packed};
 use refusal::Refusal;
 
 // How far the pack lasts: days covered, the last of them, what is left, and why it ends.
-#[derive(Drop)]
+#[derive(Clone, Copy)]
 pub struct Lasting {
     pub days: u32,
     pub last: u32,
@@ -27,7 +29,7 @@ pub struct Lasting {
     pub reason: u8,
 }
 
-#[derive(Drop)]
+#[derive(Clone, Copy)]
 pub enum Supply {
     Lasts(Lasting),
     Refused(Refusal),
@@ -35,7 +37,7 @@ pub enum Supply {
 
 // The dates that the counter wants, each the last covered day of a choice's supply, or the open mark where it is absent: one end date, or
 // a minimum and a maximum; date 3, of all doses; and date 4, of those as needed.
-#[derive(Drop)]
+#[derive(Clone, Copy)]
 pub struct Dates {
     pub end: u32,
     pub minimum: u32,
@@ -44,7 +46,7 @@ pub struct Dates {
     pub fourth: u32,
 }
 
-#[derive(Drop)]
+#[derive(Clone, Copy)]
 pub enum DateSet {
     Given(Dates),
     Refused(Refusal),

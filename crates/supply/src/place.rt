@@ -13,7 +13,7 @@ use doses::position_of;
 use plan::{block_of, doses_of, interval_of};
 
 // The period at block b, in rounds of `interval` days, has `doses` doses. Or there is none.
-#[derive(Drop)]
+#[derive(Clone, Copy)]
 pub(crate) struct Period {
     pub any: bool,
     pub b: u8,
@@ -22,7 +22,7 @@ pub(crate) struct Period {
 }
 
 // A day has a position in a period. The doses of that position need `due`, and dose `behind` is the one behind them.
-#[derive(Drop)]
+#[derive(Clone, Copy)]
 pub(crate) struct Place {
     pub due: u64,
     pub position: u32,
@@ -44,7 +44,7 @@ pub(crate) const NO_PLACE: Place = Place {
 };
 
 // A period as the plan has it, of any class; `chosen` says that it has doses of the choice. Or there is none.
-#[derive(Drop)]
+#[derive(Clone, Copy)]
 pub(crate) struct Candidate {
     pub any: bool,
     pub chosen: bool,

@@ -34,7 +34,7 @@ pub(crate) fn first_from(plan: &[u8], b: u8, n: u16, x: u64) -> u16
 }
 
 // What a position needs, and the dose behind its doses.
-#[derive(Drop)]
+#[derive(Clone, Copy)]
 pub(crate) struct Due {
     pub need: u64,
     pub behind: u16,

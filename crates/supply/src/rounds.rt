@@ -11,7 +11,7 @@ use plan::{block_of, dose_in, last_of};
 
 // Rounds of `interval` days, each of which needs `need`. Up to day `until` the days are in their period, and in no other with doses of the
 // choice. Where `interval` is 0 there are none.
-#[derive(Drop)]
+#[derive(Clone, Copy)]
 pub(crate) struct Round {
     pub need: u64,
     pub interval: u32,

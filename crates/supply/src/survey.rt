@@ -12,7 +12,7 @@ use plan::{block_of, first_of, kind_of, last_of};
 // The first two blocks whose periods have the day; where there is no such block the number lies past all blocks. `one` and `other` say
 // whether these have doses of the choice. Up to day `until` the days are in the periods that have this one, and in no others. From the day
 // behind this one up to day `clear` no period with doses of the choice begins.
-#[derive(Drop)]
+#[derive(Clone, Copy)]
 pub(crate) struct Survey {
     pub first: u8,
     pub second: u8,

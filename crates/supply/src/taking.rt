@@ -13,7 +13,7 @@ use pause::Sight;
 const NO_ROUNDS: u64 = 0;
 
 // The days of a step, and what they need. `still` says that the day behind them stands in the same periods as the first of them does.
-#[derive(Drop)]
+#[derive(Clone, Copy)]
 pub(crate) struct Stride {
     pub need: u64,
     pub days: u32,

@@ -13,7 +13,7 @@ use crate::survey::survey_of;
 
 // The day stands in the periods `first` and `second`, at a place in each. Up to day `until` all of this stays but the places, and up to
 // day `same` each needs what the one ahead of it needs. `rounds` are those that may be taken, pauses apart.
-#[derive(Drop)]
+#[derive(Clone, Copy)]
 pub(crate) struct Today {
     pub first: Period,
     pub in_first: Place,

@@ -13,7 +13,7 @@ use refusal::Refusal;
 // The walk stands on `day`, with a rest, after `count` steps, and goes on as long as `going`; where supply is refused it never goes.
 // `chosen` has a bit for each block whose period has doses of the choice. The walk is handed on by value at each step: its fields, and
 // those of what it holds, leave no gap, and stand in an order in which the compiler keeps them in registers.
-#[derive(Drop)]
+#[derive(Clone, Copy)]
 pub(crate) struct Walk {
     pub refused: bool,
     pub refusal: Refusal,

@@ -65,7 +65,7 @@ pub(crate) fn day_after(block: &[u8]) -> u32
 }
 
 // A period as the walks over all of them take it: its class, its first day and the day after it.
-#[derive(Drop)]
+#[derive(Clone, Copy)]
 pub(crate) struct Span {
     pub class: u8,
     pub first: u32,

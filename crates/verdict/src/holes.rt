@@ -27,7 +27,7 @@ fn cover_of(g: Group) -> Group
 // A walk over the periods of a group and its cover: the cover has each day from `from` up to, and without, `to`, and no
 // period of the group so far has another day, unless the walk is lost. Until the group has begun, the days begin anew with
 // each period of the cover that does not join them.
-#[derive(Drop)]
+#[derive(Clone, Copy)]
 pub(crate) struct Reach {
     pub from: u32,
     pub to: u32,

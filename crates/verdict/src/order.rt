@@ -18,7 +18,7 @@ use refusal::Refusal;
 
 // What the pass over the periods has found: the lowest broken rule from 5 to 14, 15 where there is none, with its first
 // block.
-#[derive(Drop)]
+#[derive(Clone, Copy)]
 struct Found {
     rule: u8,
     place: u8,

@@ -12,7 +12,7 @@ use plan::{block_of, first_of, is_period, last_of};
 
 // A walk over the periods of a group: `day` is the first day behind all of them so far, and each began behind those ahead
 // of it, unless the walk is lost.
-#[derive(Drop)]
+#[derive(Clone, Copy)]
 pub(crate) struct Free {
     pub day: u32,
     pub lost: bool,

@@ -1,5 +1,7 @@
 // A plan is written into a lent buffer, call by call: its head, then each period, and behind it its doses. The sums come
 // last and all at once, so that no block is summed twice.
+#![tactic(auto)]
+
 mod fill;
 
 ghost use Rattle.std.specs.Prelude.{◌≡◌, ◌+◌, ◌*◌, ◌≤◌, ◌<◌, length};
@@ -10,7 +12,7 @@ use fill::{fill_continuation, fill_head, fill_period};
 use plan::{Dose, Head, Header, RECORD, record_start, write_dose};
 
 // Where the writing stands: the blocks begun, and the doses in the last of them.
-#[derive(Drop)]
+#[derive(Clone, Copy)]
 pub struct Place {
     pub blocks: u8,
     pub doses: u8,
