@@ -1,0 +1,14 @@
+use Prim.Native.Nat.{◌-◌, ◌≤◌}
+use mathlib.Core.Path.{◌≡◌}
+use native.Mathlib.Omega.{arith}
+use borrow.Author.Rules.{rules}
+use Rattle.day.specs.Calendar.{is_leap, before}
+use Rattle.day.proofs.Months.{before_zero, before_most}
+use Rattle.day.proofs.Laws.{inside}
+use Rattle.day.proofs.calendar.in_year.Given as goal
+
+abbrev pub invariant-loop-m : goal.invariant-loop-m
+invariant-loop-m l = (l.m ≤ 11) × (before l.leap l.m ≤ l.rest)
+
+abbrev pub decreases-loop-m : goal.decreases-loop-m
+decreases-loop-m l = 11 - l.m

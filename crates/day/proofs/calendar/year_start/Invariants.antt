@@ -1,0 +1,13 @@
+use Prim.Native.Nat.{◌-◌, ◌*◌, ◌≤◌}
+use mathlib.Core.Path.{◌≡◌, sym}
+use borrow.Author.Rules.{rules}
+use Rattle.below.proofs.Tests.{at_end}
+use Rattle.day.specs.Calendar.{year_start}
+use Rattle.day.proofs.Laws.{start_zero, start_more}
+use Rattle.day.proofs.calendar.year_start.Given as goal
+
+abbrev pub invariant-loop-i : goal.invariant-loop-i
+invariant-loop-i l = (l.i ≤ l.k) × (l.start ≡ year_start l.i) × (l.start ≤ 366 * l.i)
+
+abbrev pub decreases-loop-i : goal.decreases-loop-i
+decreases-loop-i l = l.k - l.i
