@@ -1,0 +1,10 @@
+use Rattle.std.proofs.Common.{◌≡◌, ◌+◌, ◌-◌, ◌<◌, ◌≤◌, length, sym, add-one, arith, rules}
+use lib.Seq.{paste, paste-zero, paste-suc, take-length}
+use Rattle.block.proofs.Put.{put_in, put_out}
+use Rattle.block.proofs.write.put_bytes.Given as goal
+
+abbrev pub invariant-loop-i : goal.invariant-loop-i
+invariant-loop-i l = (l.i ≤ length l.src) × (l.i-end ≡ length l.src) × (length l.dst ≡ length l.initial.dst) × (l.at + length l.src ≤ length l.initial.dst) × (l.dst ≡ paste l.initial.dst l.at l.src l.i)
+
+abbrev pub decreases-loop-i : goal.decreases-loop-i
+decreases-loop-i l = length l.src - l.i

@@ -1,0 +1,7 @@
+use mathlib.Core.Path.{ap, ◌∙◌}
+use borrow.Author.Rules.{rules}
+use Rattle.refusal.specs.Refusals.{code_of}
+use Rattle.refusal.proofs.done.Goals as goal
+
+pub returns : goal.returns
+returns c = c.code.ensures ∙ ap code_of c.alone.ensures
