@@ -1,0 +1,5 @@
+use borrow.Author.Rules.{rules}
+use Rattle.plan.proofs.periods.is_period.Goals as goal
+
+pub returns : goal.returns
+returns c = cc

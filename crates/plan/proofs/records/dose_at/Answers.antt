@@ -1,0 +1,5 @@
+use borrow.Author.Rules.{rules}
+use Rattle.plan.proofs.records.dose_at.Goals as goal
+
+pub returns : goal.returns
+returns c = cc
