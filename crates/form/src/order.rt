@@ -36,7 +36,7 @@ fn no_head(plan: &[u8]) -> bool
 }
 
 // May a continuation stand behind block b?
-fn goes_on_lem(plan: &[u8], b: u8) -> bool
+fn goes_on(plan: &[u8], b: u8) -> bool
     ensures { result ≡ goes_on plan.now b }
 {
     let r = block_of(plan, b as u16);

@@ -8,8 +8,7 @@ use borrow.Author.Rules.{rules}
 use borrow.Author.Tests.{le-leb, leb-true, eqb-true}
 use Rattle.below.proofs.Tests.{bool_cases}
 use Rattle.day.specs.Days.{last_number, open_mark, closed_day}
-use Rattle.pause.proofs.test.is_in.Statement.{statement}
-use Rattle.pause.proofs.test.is_in.Tie as tie
+use Rattle.pause.proofs.test.is_in.Goals as goal
 
 -- for a day of the calendar an end may stay open
 still_open : (day last : ℕ) → day ≤ last_number → leb day last ≡ leb day (closed_day last)
@@ -23,28 +22,11 @@ still_open day last l =
     (λ (t : eqb last open_mark ≡ false). rw t)
     (bool_cases (eqb last open_mark))
 
-new-requires : tie.Need-new-requires
-new-requires c κs = search rules
-
-is-day-requires : tie.Need-is-day-requires
-is-day-requires c κs = search rules
-
-returns : tie.Need-returns
-returns c =
-    let a = c.before.before.before.args in
+pub returns-then-is_day : goal.returns-then-is_day
+returns-then-is_day c =
+    let a = c.args in
     let d : leb a.day last_number ≡ true = cc in
     ap (λ (t : Bool). leb a.first a.day && t) (still_open a.day a.last (leb-true a.day last_number d))
 
-new-requires-2 : tie.Need-new-requires-2
-new-requires-2 c κs = search rules
-
-closed-requires : tie.Need-closed-requires
-closed-requires c κs = search rules
-
-returns-2 : tie.Need-returns-2
-returns-2 c = cc
-
-pub is-in-spec : {M : Type 1} → statement M
-is-in-spec =
-    tie.close
-    (tie.spec new-requires is-day-requires returns new-requires-2 closed-requires returns-2)
+pub returns : goal.returns
+returns c = cc
