@@ -1,0 +1,5 @@
+use borrow.Author.Rules.{rules}
+use Rattle.period.proofs.header.last_day.Goals as goal
+
+pub returns : goal.returns
+returns c = cc

@@ -1,0 +1,5 @@
+use borrow.Author.Rules.{rules}
+use Rattle.period.proofs.turn.is_asked.Goals as goal
+
+pub returns : goal.returns
+returns c = cc

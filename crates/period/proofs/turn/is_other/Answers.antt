@@ -1,0 +1,6 @@
+use borrow.Author.Rules.{rules}
+use Rattle.period.proofs.turn.is_other.Goals as goal
+
+pub returns : goal.returns
+returns c =
+    rw (c.from_of.ensures.0, c.pick64-high.ensures, c.pick64-low.ensures, c.pick16-last.ensures, c.is_marked-marked.ensures)

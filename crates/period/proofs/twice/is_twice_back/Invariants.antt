@@ -1,0 +1,14 @@
+use Prim.Native.Nat.{◌-◌, ◌≤◌}
+use mathlib.Core.Path.{sym, ◌∙◌}
+use borrow.Author.Rules.{rules}
+use Rattle.below.proofs.Search.{NoneBelow, none_zero, none_more}
+use Rattle.plan.specs.Periods.{dose_in}
+use Rattle.period.specs.Doses.{twice}
+use Rattle.period.proofs.Seen.{back_hit, back_end, back_stop}
+use Rattle.period.proofs.twice.is_twice_back.Given as goal
+
+abbrev pub invariant-loop-i : goal.invariant-loop-i
+invariant-loop-i l = (l.i ≤ l.j) × NoneBelow (λ k. twice (dose_in l.plan l.b (l.j - 1 - k)) (dose_in l.plan l.b l.j)) l.i
+
+abbrev pub decreases-loop-i : goal.decreases-loop-i
+decreases-loop-i l = l.j - l.i

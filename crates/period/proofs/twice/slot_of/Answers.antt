@@ -1,0 +1,13 @@
+use mathlib.Core.Path.{◌≡◌}
+use borrow.Author.Rules.{rules}
+use Rattle.period.specs.Code.Twice.{slot_of}
+use Rattle.period.proofs.Seen.{slot_small}
+use Rattle.period.proofs.twice.slot_of.Goals as goal
+
+pub returns : goal.returns
+unfolding slot_of
+returns c =
+    let d = c.args.d in
+    let e : c.pick64-2.result ≡ slot_of d =
+    rw (c.pick64-2.ensures, c.pick64.ensures, c.least1439.ensures) in
+    (e, rw e (slot_small d))
