@@ -1,0 +1,18 @@
+use Prim.Native.Nat.{◌≤◌, ◌<◌, max}
+use borrow.Author.Tests.{lt-ltb, le-ltb}
+use Rattle.below.proofs.Tests.{or_true, or_false}
+use Rattle.plan.specs.Fields.{dose_of}
+use Rattle.form.proofs.Zeroed.{record_is}
+use borrow.Author.Rules.{rules}
+use Rattle.form.proofs.block_form.record_out.Goals as goal
+
+pub returns-then-larger-gt9999999999 : goal.returns-then-larger-gt9999999999
+returns-then-larger-gt9999999999 c = let d = c.args.«record».now in
+    let l : 9999999999 < max (dose_of d).low (dose_of d).high = rw (← c.open_record-r.ensures.0, ← c.larger.ensures) c.if-larger-gt9999999999.true in
+    rw (← record_is d c.requires, lt-ltb _ _ l, or_true)
+
+pub returns : goal.returns
+returns c = let d = c.args.«record».now in
+    let e = c.open_record-r.ensures in
+    let l : max (dose_of d).low (dose_of d).high ≤ 9999999999 = rw (← e.0, ← c.larger.ensures) c.if-larger-gt9999999999.false in
+    rw (← record_is d c.requires, le-ltb _ _ l, or_false, ← e.0, ← e.1) c.time_out.ensures

@@ -1,0 +1,12 @@
+use borrow.Author.Tests.{eq-eqb, ne_eqb}
+use Rattle.form.specs.Code.Front.{records_of}
+use borrow.Author.Rules.{rules}
+use Rattle.form.proofs.block_form.records_of.Goals as goal
+
+pub returns-then-kind_of-eq1 : goal.returns-then-kind_of-eq1
+unfolding records_of
+returns-then-kind_of-eq1 c = rw (← c.kind_of.ensures, eq-eqb _ _ c.if-kind_of-eq1.true)
+
+pub returns-else-kind_of-eq1 : goal.returns-else-kind_of-eq1
+unfolding records_of
+returns-else-kind_of-eq1 c = rw (← c.kind_of.ensures, ne_eqb _ _ c.if-kind_of-eq1.false) c.count_of.ensures

@@ -1,0 +1,5 @@
+use borrow.Author.Rules.{rules}
+use Rattle.form.proofs.order.sums_wrong.Goals as goal
+
+pub returns : goal.returns
+returns c = cc
