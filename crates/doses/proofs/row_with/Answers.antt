@@ -1,0 +1,5 @@
+use Rattle.std.proofs.Common.{rules}
+use Rattle.doses.proofs.row_with.Goals as goal
+
+pub returns : goal.returns
+returns c = cc
