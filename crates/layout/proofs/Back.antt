@@ -45,7 +45,7 @@ module _ {p : List ℕ} where
       let rest : join_below (length (body_of ws)) (λ i. found_at p (at + (size_of w + i))) ≡ ws =
       join_same (length (body_of ws)) (λ i. found_at p (at + (size_of w + i))) (λ i. found_at p (at + size_of w + i))
       (λ i l. let e : at + (size_of w + i) ≡ at + size_of w + i = omega arith in rw e) ∙
-      all_found fs (omega arith) (stand_rest s) in
+      all_found {at = at + size_of w} fs (omega arith) (stand_rest s) in
       ap (λ (n : ℕ). join_below n (λ i. found_at p (at + i))) n ∙
       join_split (size_of w) (length (body_of ws)) (λ i. found_at p (at + i)) ∙
       rw (one_found f (omega arith) (stand_first s), rest)

@@ -37,12 +37,12 @@ module _ {A : Type 0} {P : A → Type 0} where
   pub every_take : {xs : List A} (n : ℕ) → Every P xs → Every P (take n xs)
   every_take zero ps = none
   every_take (suc n) none = none
-  every_take (suc n) (more p ps) = more p (every_take n ps)
+  every_take (suc n) (more {x = x} {xs = xs} p ps) = more p (every_take {xs = xs} n ps)
 
   pub every_drop : {xs : List A} (n : ℕ) → Every P xs → Every P (drop n xs)
   every_drop zero ps = ps
   every_drop (suc n) none = none
-  every_drop (suc n) (more p ps) = every_drop n ps
+  every_drop (suc n) (more {x = x} {xs = xs} p ps) = every_drop {xs = xs} n ps
 
   pub every_cond : (t : Bool) {xs ys : List A} → (t ≡ true → Every P xs) → (t ≡ false → Every P ys) → Every P (cond t xs ys)
   every_cond true f g = f refl

@@ -177,6 +177,6 @@ module _ {p : List ℕ} (P : ℕ → Type 0) {Q : Written → Type 0}
       ⊎_elim
       (λ (h : size_of w ≤ b).
       let e : at + b ≡ at + size_of w + (b - size_of w) = omega arith in
-      rw e (all_blocks (omega arith) qs (stand_rest s) (b - size_of w) (omega (arith, length_body w ws))))
+      rw e (all_blocks {at = at + size_of w} (omega arith) qs (stand_rest s) (b - size_of w) (omega (arith, length_body w ws))))
       (λ (h : b < size_of w). each at w pos q (stand_first s) b h)
       (le_or_lt (size_of w) b)

@@ -1,0 +1,5 @@
+use borrow.Author.Rules.{rules}
+use Rattle.showing.proofs.blocks_shown.Goals as goal
+
+pub returns : goal.returns
+returns c = rw (← c.more_blocks-more.ensures.0)
