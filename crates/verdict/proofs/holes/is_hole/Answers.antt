@@ -1,0 +1,7 @@
+use borrow.Author.Rules.{rules}
+use Rattle.verdict.specs.Coverage.{hole_at}
+use Rattle.verdict.proofs.holes.is_hole.Goals as goal
+
+pub returns : goal.returns
+unfolding hole_at
+returns c = cc

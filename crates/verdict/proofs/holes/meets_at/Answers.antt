@@ -1,0 +1,6 @@
+use borrow.Author.Rules.{rules}
+use Rattle.verdict.proofs.Meeting.{meets_is}
+use Rattle.verdict.proofs.holes.meets_at.Goals as goal
+
+pub returns : goal.returns
+returns c = let a = c.args in rw (meets_is a.g a.plan.now a.lo a.hi a.b) (cc)

@@ -1,0 +1,14 @@
+use Prim.Native.Nat.{◌≤◌, ◌-◌}
+use mathlib.Core.Path.{◌≡◌}
+use native.Mathlib.Omega.{arith}
+use Rattle.plan.specs.Periods.{blocks_of}
+use Rattle.verdict.specs.Code.Judging.{Judged}
+use Rattle.verdict.proofs.Passing.{judged_zero}
+use borrow.Author.Rules.{rules}
+use Rattle.verdict.proofs.order.judge_periods.Given as goal
+
+abbrev pub invariant-loop-b : goal.invariant-loop-b
+invariant-loop-b l = (l.b ≤ l.n) × (l.n ≡ blocks_of l.plan) × Judged l.plan l.b l.s l.cs
+
+abbrev pub decreases-loop-b : goal.decreases-loop-b
+decreases-loop-b l = l.n - l.b
