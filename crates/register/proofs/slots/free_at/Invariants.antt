@@ -1,0 +1,13 @@
+use Prim.Native.Nat.{◌-◌, ◌≤◌}
+use mathlib.Core.Bool.{true, false}
+use mathlib.Core.Path.{◌≡◌, sym, ◌∙◌}
+use borrow.Author.Rules.{rules}
+use Rattle.below.proofs.Search.{NoneBelow, none_zero, none_more, first_is, first_end}
+use Rattle.register.specs.Slots.{slot_at, is_free, free_at}
+use Rattle.register.proofs.slots.free_at.Given as goal
+
+abbrev pub invariant-loop-i : goal.invariant-loop-i
+invariant-loop-i l = (l.i ≤ l.n) × NoneBelow (λ k. is_free (slot_at l.register k)) l.i
+
+abbrev pub decreases-loop-i : goal.decreases-loop-i
+decreases-loop-i l = l.n - l.i
