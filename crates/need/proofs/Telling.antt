@@ -152,3 +152,10 @@ module _ {choice : ℕ} {p : List ℕ} {bits : ℕ} (t : Tells choice p bits) wh
   pub told_day_lem : told_day bits p ≡ stop_day choice p
   unfolding stop_day_by
   told_day_lem = largest_same (blocks_of p) (λ b l. ap (λ (t : Bool). cond t (last_of (block_at p b)) 0) (told_stops b l))
+
+-- which blocks count by a choice, and the bits of those from b on
+abbrev pub counts : List ℕ → ℕ → ℕ → Bool
+counts classes choice b = (choice_of choice).stops (get_or classes b 0)
+
+abbrev pub behind : List ℕ → List ℕ → ℕ → ℕ → ℕ
+behind plan classes choice b = bits_from (counts classes choice) b (min (blocks_of plan) 32 - b)
