@@ -1,0 +1,15 @@
+use Prim.Native.Nat.{◌+◌, ◌-◌, ◌≤◌}
+use mathlib.Core.Path.{◌≡◌, sym}
+use native.Mathlib.Omega.{arith}
+use lib.ListN.{length}
+use lib.Seq.{take_all, length-take-le}
+use Rattle.split.specs.Code.Adding.{kept_in, records_put}
+use Rattle.split.proofs.Copied.{kept_start, kept_turn}
+use borrow.Author.Rules.{rules}
+use Rattle.split.proofs.copying.put_all_kept.Given as goal
+
+abbrev pub invariant-loop-i : goal.invariant-loop-i
+invariant-loop-i l = (l.from ≤ l.i) × (l.i ≤ l.n) × (length l.out ≡ length l.initial.out) × (l.m ≤ l.held + (l.i - l.from)) × (l.m ≡ l.held + length (kept_in l.marked l.r l.from l.i)) × (l.out ≡ records_put l.initial.out l.block l.held (kept_in l.marked l.r l.from l.i))
+
+abbrev pub decreases-loop-i : goal.decreases-loop-i
+decreases-loop-i l = l.n - l.i

@@ -1,0 +1,12 @@
+use mathlib.Core.Path.{sym, ◌∙◌}
+use borrow.Author.Tests.{not-true, not-false}
+use Rattle.split.proofs.Adding.{adds_none, adds_both}
+use Rattle.split.proofs.Classes.{brought_none, brought_some}
+use borrow.Author.Rules.{rules}
+use Rattle.split.proofs.part.add_brought.Goals as goal
+
+pub returns-then-not-is_dosed : goal.returns-then-not-is_dosed
+returns-then-not-is_dosed c = let a = c.args in rw (brought_none a.marked a.plan.now a.b (sym c.is_dosed.ensures ∙ c.if-not-is_dosed.true)) adds_none
+
+pub returns : goal.returns
+returns c = let a = c.args in rw (brought_some a.marked a.plan.now a.b (sym c.is_dosed.ensures ∙ c.if-not-is_dosed.false)) (adds_both c.add_dosed-place.ensures c.add_behind.ensures)

@@ -1,0 +1,6 @@
+use Rattle.split.proofs.Adding.{adds_period, adds_dosed}
+use borrow.Author.Rules.{rules}
+use Rattle.split.proofs.part.add_dosed.Goals as goal
+
+pub returns : goal.returns
+returns c = adds_dosed (rw (c.add_period-place.ensures.0, c.add_period-place.ensures.1, c.header_at.ensures) (adds_period _)) c.add_doses.ensures

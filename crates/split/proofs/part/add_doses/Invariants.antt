@@ -1,0 +1,19 @@
+use Prim.Native.Nat.{◌+◌, ◌-◌, ◌*◌, ◌/◌, ◌≤◌, ◌<◌, min}
+use mathlib.Core.Path.{◌≡◌}
+use native.Mathlib.Omega.{arith}
+use lib.ListN.{length}
+use Rattle.below.specs.Lists.{list_below, keep}
+use Rattle.plan.specs.Periods.{doses_of, dose_in}
+use Rattle.layout.specs.Reading.{doses_at}
+use Rattle.split.specs.Parts.{is_of_part}
+use Rattle.split.specs.Code.Adding.{AddsDoses}
+use Rattle.split.proofs.Adding.{doses_none, doses_both}
+use Rattle.split.proofs.Copied.{block_none, block_more}
+use borrow.Author.Rules.{rules}
+use Rattle.split.proofs.part.add_doses.Given as goal
+
+abbrev pub invariant-loop-i : goal.invariant-loop-i
+invariant-loop-i l = (l.i ≤ l.i-end) × (l.i-end ≡ (l.n + 19) / 20) × (length l.out ≡ length l.initial.out) × AddsDoses (keep (is_of_part l.marked) (list_below (min (l.i * 20) l.n) (dose_in l.plan l.b))) l.initial.place l.initial.out l.place l.out
+
+abbrev pub decreases-loop-i : goal.decreases-loop-i
+decreases-loop-i l = l.i-end - l.i

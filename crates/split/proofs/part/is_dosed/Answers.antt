@@ -1,0 +1,6 @@
+use Rattle.split.proofs.Classes.{dosed_by}
+use borrow.Author.Rules.{rules}
+use Rattle.split.proofs.part.is_dosed.Goals as goal
+
+pub returns : goal.returns
+returns c = dosed_by c.args.plan.now c.args.b (λ e. c.requires.classed.entry c.args.b c.requires.b_bound e) c.args.marked c.own_class.ensures c.is_period.ensures

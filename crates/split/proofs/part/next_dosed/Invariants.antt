@@ -1,0 +1,16 @@
+use Prim.Native.Nat.{ℕ, ◌+◌, ◌-◌, ◌≤◌, ◌<◌}
+use mathlib.Core.Bool.{false}
+use mathlib.Core.Path.{◌≡◌, sym, ◌∙◌}
+use native.Mathlib.Omega.{arith}
+use Rattle.below.proofs.Search.{from_hit, from_none}
+use Rattle.plan.specs.Periods.{blocks_of}
+use Rattle.split.specs.Parts.{is_dosed_in, next_dosed}
+use Rattle.split.proofs.Classes.{from_more}
+use borrow.Author.Rules.{rules}
+use Rattle.split.proofs.part.next_dosed.Given as goal
+
+abbrev pub invariant-loop-c : goal.invariant-loop-c
+invariant-loop-c l = (l.b + 1 ≤ l.c) × (l.c ≤ l.n) × (l.n ≡ blocks_of l.plan) × ((k : ℕ) → l.b + 1 ≤ k → k < l.c → is_dosed_in l.marked l.plan k ≡ false)
+
+abbrev pub decreases-loop-c : goal.decreases-loop-c
+decreases-loop-c l = l.n - l.c

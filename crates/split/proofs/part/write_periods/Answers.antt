@@ -1,0 +1,35 @@
+use mathlib.Core.Path.{◌≡◌, sym, ◌∙◌}
+use Prim.Native.Nat.{◌-◌, ◌≤◌}
+use mathlib.Core.List.{[]}
+use native.Mathlib.Omega.{arith}
+use lib.ListN.{length}
+use Rattle.below.specs.Lists.{join_below}
+use Rattle.below.proofs.Lists.{join_zero, join_more}
+use Rattle.plan.specs.Periods.{blocks_of}
+use Rattle.writer.proofs.Holding.{holds_begin, holds_finish}
+use Rattle.split.specs.Parts.{brought_by, part_of, part_bytes}
+use Rattle.split.specs.Code.Adding.{Adds}
+use Rattle.split.specs.Split.{over}
+use Rattle.split.proofs.Adding.{adds_none, adds_both}
+use borrow.Author.Rules.{rules}
+use Rattle.split.proofs.part.write_periods.Goals as goal
+
+pub loop-b-init : goal.loop-b-init
+loop-b-init c = (search rules, search rules, search rules, rw join_zero adds_none)
+
+pub loop-b-preserved : goal.loop-b-preserved
+loop-b-preserved c = (search rules, search rules, search rules, rw join_more (adds_both c.loop-b.invariant.3 c.add_brought-next.ensures))
+
+pub returns : goal.returns
+unfolding over part_bytes part_of
+returns c = let a = c.args in
+    let old = a.out.now in
+    let l = c.loop-b in
+    let g = c.begin-at in
+    let h = c.head_of.result in
+    let room = c.requires.has_room in
+    let e : l.b ≡ blocks_of a.plan.now = omega arith in
+    let all = rw e at l.invariant.3 in
+    let started = rw (sym g.ensures.0, sym g.ensures.1) at (holds_begin h old (omega (arith, room.0))) in
+    let ends = holds_finish h (part_of a.marked a.plan.now) old l.at l.out (all h [] old room started) in
+    rw (← c.head_of.ensures) (c.finish.ensures.0 ∙ ends.0, c.finish.ensures.1 ∙ ends.1)
