@@ -20,5 +20,4 @@ pub mod Striding
 pub mod Walking
 pub mod Unpacked
 pub mod Agreeing
-pub mod Lending
 pub mod Later
