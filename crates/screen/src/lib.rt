@@ -1,4 +1,4 @@
-// The calls of the C approval screen. include/chivetassel.h declares them.
+// The calls of the C approval screen, as a library. The crate screen_c gives them to C, under the same names.
 #![tactic(auto)]
 
 ghost use Rattle.std.specs.Prelude.{◌≡◌, true, false, cond, [], ◌∷◌};
@@ -23,16 +23,14 @@ use supply::{DateSet, Supply, dates_packed, supply_packed};
 use verdict::{Answer, refusal_of, verdict};
 
 // The version of the header that declares these calls, so that a caller sees whether this library is that header's.
-#[unsafe(no_mangle)]
-pub extern "C" fn chivetassel_version() -> u32
+pub fn chivetassel_version() -> u32
     ensures { result ≡ version }
 {
     10101
 }
 
 // The verdict on a plan: the number plus 256 times the place.
-#[unsafe(no_mangle)]
-pub extern "C" fn chivetassel_verdict(plan: &[u8]) -> u32
+pub fn chivetassel_verdict(plan: &[u8]) -> u32
     ensures { result ≡ code_of_answer (verdict_of plan.now) }
 {
     refusal_of(verdict(plan)).code()
@@ -57,8 +55,7 @@ fn put_two(out: &mut [u8], a: u64, b: u64)
 }
 
 // How far a pack lasts.
-#[unsafe(no_mangle)]
-pub extern "C" fn chivetassel_supply(
+pub fn chivetassel_supply(
     plan: &[u8],
     start: u32,
     pack: u64,
@@ -90,14 +87,7 @@ fn put_five(out: &mut [u8], a: u64, b: u64, c: u64, d: u64, e: u64)
 }
 
 // The dates that the counter wants.
-#[unsafe(no_mangle)]
-pub extern "C" fn chivetassel_dates(
-    plan: &[u8],
-    start: u32,
-    pack: u64,
-    pauses: &[u8],
-    out: &mut [u8],
-) -> u32
+pub fn chivetassel_dates(plan: &[u8], start: u32, pack: u64, pauses: &[u8], out: &mut [u8]) -> u32
     ensures value { result ≡ cond (too_short 40 out.old) code26 (dates_code (packed_dates_of plan.now start pack pauses.now)) }
     ensures out_after { out.new ≡ cond (too_short 40 out.old) out.old (dates_out out.old (packed_dates_of plan.now start pack pauses.now)) }
 {
@@ -121,13 +111,7 @@ pub extern "C" fn chivetassel_dates(
 }
 
 // A plan into its two parts.
-#[unsafe(no_mangle)]
-pub extern "C" fn chivetassel_split(
-    plan: &[u8],
-    fixed: &mut [u8],
-    need: &mut [u8],
-    out: &mut [u8],
-) -> u32
+pub fn chivetassel_split(plan: &[u8], fixed: &mut [u8], need: &mut [u8], out: &mut [u8]) -> u32
     ensures value { result ≡ cond (too_short 16 out.old) code26 (split_code (split_of plan.now fixed.old need.old)) }
     ensures fixed_after { fixed.new ≡ cond (too_short 16 out.old) fixed.old (left_by (split_of plan.now fixed.old need.old) (part_bytes false plan.now) fixed.old) }
     ensures need_after { need.new ≡ cond (too_short 16 out.old) need.old (left_by (split_of plan.now fixed.old need.old) (part_bytes true plan.now) need.old) }
@@ -146,14 +130,7 @@ pub extern "C" fn chivetassel_split(
 }
 
 // The blocks of a part's first period that has the day, by their place in the wanted part.
-#[unsafe(no_mangle)]
-pub extern "C" fn chivetassel_show_day(
-    fixed: &[u8],
-    need: &[u8],
-    list: u32,
-    day: u32,
-    out: &mut [u8],
-) -> u32
+pub fn chivetassel_show_day(fixed: &[u8], need: &[u8], list: u32, day: u32, out: &mut [u8]) -> u32
     ensures value { result ≡ cond (too_short 16 out.old) code26 done_code }
     ensures out_after { out.new ≡ cond (too_short 16 out.old) out.old (stretch_out out.old (stretch_of fixed.now need.now list day)) }
 {
@@ -166,8 +143,7 @@ pub extern "C" fn chivetassel_show_day(
 }
 
 // A day's four sums.
-#[unsafe(no_mangle)]
-pub extern "C" fn chivetassel_day_sums(plan: &[u8], day: u32, out: &mut [u8]) -> u32
+pub fn chivetassel_day_sums(plan: &[u8], day: u32, out: &mut [u8]) -> u32
     ensures value { result ≡ cond (too_short 32 out.old) code26 (code_of_answer (verdict_of plan.now)) }
     ensures out_after { out.new ≡ cond (too_short 32 out.old) out.old (sums_out out.old (verdict_of plan.now) (day_sums plan.now day)) }
 {
@@ -184,8 +160,7 @@ pub extern "C" fn chivetassel_day_sums(plan: &[u8], day: u32, out: &mut [u8]) ->
 }
 
 // Frees every slot of a register.
-#[unsafe(no_mangle)]
-pub extern "C" fn chivetassel_clear(register: &mut [u8]) -> u32
+pub fn chivetassel_clear(register: &mut [u8]) -> u32
     ensures value { result ≡ code_of (answered register.old clear).refusal }
     ensures register_after { register.new ≡ after register.old clear }
 {
@@ -193,8 +168,7 @@ pub extern "C" fn chivetassel_clear(register: &mut [u8]) -> u32
 }
 
 // Takes a plan into a register.
-#[unsafe(no_mangle)]
-pub extern "C" fn chivetassel_submit(register: &mut [u8], plan: &[u8]) -> u32
+pub fn chivetassel_submit(register: &mut [u8], plan: &[u8]) -> u32
     ensures value { result ≡ code_of (answered register.old (submit plan.now)).refusal }
     ensures register_after { register.new ≡ after register.old (submit plan.now) }
 {
@@ -202,8 +176,7 @@ pub extern "C" fn chivetassel_submit(register: &mut [u8], plan: &[u8]) -> u32
 }
 
 // Signs a plan that is held.
-#[unsafe(no_mangle)]
-pub extern "C" fn chivetassel_sign(register: &mut [u8], signer: u32, plan: &[u8]) -> u32
+pub fn chivetassel_sign(register: &mut [u8], signer: u32, plan: &[u8]) -> u32
     ensures value { result ≡ code_of (answered register.old (sign signer plan.now)).refusal }
     ensures register_after { register.new ≡ after register.old (sign signer plan.now) }
 {
@@ -211,13 +184,7 @@ pub extern "C" fn chivetassel_sign(register: &mut [u8], signer: u32, plan: &[u8]
 }
 
 // Gives a plan that two have signed.
-#[unsafe(no_mangle)]
-pub extern "C" fn chivetassel_release(
-    register: &[u8],
-    number: u32,
-    room: &mut [u8],
-    out: &mut [u8],
-) -> u32
+pub fn chivetassel_release(register: &[u8], number: u32, room: &mut [u8], out: &mut [u8]) -> u32
     ensures value { result ≡ cond (too_short 8 out.old) code26 (code_of (answered register.now (release number room.old)).refusal) }
     ensures room_after { room.new ≡ cond (too_short 8 out.old) room.old (room_after register.now number room.old) }
     ensures out_after { out.new ≡ cond (too_short 8 out.old) out.old (released_out out.old (answered register.now (release number room.old))) }
@@ -234,8 +201,7 @@ pub extern "C" fn chivetassel_release(
 }
 
 // Drops a plan.
-#[unsafe(no_mangle)]
-pub extern "C" fn chivetassel_drop(register: &mut [u8], number: u32) -> u32
+pub fn chivetassel_drop(register: &mut [u8], number: u32) -> u32
     ensures value { result ≡ code_of (answered register.old (dropped number)).refusal }
     ensures register_after { register.new ≡ after register.old (dropped number) }
 {
@@ -243,8 +209,7 @@ pub extern "C" fn chivetassel_drop(register: &mut [u8], number: u32) -> u32
 }
 
 // A held plan's revision, and how many have signed it.
-#[unsafe(no_mangle)]
-pub extern "C" fn chivetassel_state(register: &[u8], number: u32, out: &mut [u8]) -> u32
+pub fn chivetassel_state(register: &[u8], number: u32, out: &mut [u8]) -> u32
     ensures value { result ≡ cond (too_short 16 out.old) code26 (code_of (answered register.now (state number)).refusal) }
     ensures out_after { out.new ≡ cond (too_short 16 out.old) out.old (state_out out.old (answered register.now (state number))) }
 {
