@@ -113,7 +113,7 @@ test_new_killed() {
 }
 
 # begin_faulty FAULT WORD ..: in the background, with its own files; its process is $!
-begin_faulty() { FAULT=$1 bash "$emulate" "$work/faulty" register "${@:2}" >said."$2" 2>told."$2" & }
+begin_faulty() { FAULT=$1 "$work/faulty" register "${@:2}" >said."$2" 2>told."$2" & }
 
 # One screen is stopped within its change, a signature. Another, which takes in plan 8, waits for it and says so. Then both changes are
 # there; where the first is killed instead, the other goes on at once, and the signature is not.
@@ -125,7 +125,7 @@ test_two_screens() {
         begin_faulty stop:rename:1 sign 1001 4
         first=$!
         stopped "$first"
-        bash "$emulate" "$work/renumber" 8 1 <4 >8
+        "$work/renumber" 8 1 <4 >8
         begin_faulty none submit 8
         second=$!
         for _ in $(seq 1500); do [ -s told.submit ] || sleep 0.02; done
@@ -166,9 +166,9 @@ test_lock_removed() {
 test_many_screens() {
     local n pids=()
     done_ new 8
-    for n in $(seq 8); do bash "$emulate" "$work/renumber" "$n" 1 <"$samples/revision-4.plan" >"plan-$n"; done
+    for n in $(seq 8); do "$work/renumber" "$n" 1 <"$samples/revision-4.plan" >"plan-$n"; done
     for n in $(seq 8); do
-        bash "$emulate" "$work/approval" register submit "plan-$n" >"said-$n" 2>"told-$n" &
+        "$work/approval" register submit "plan-$n" >"said-$n" 2>"told-$n" &
         pids+=($!)
     done
     for n in "${pids[@]}"; do wait "$n" || wrong "one of eight was not done"; done
@@ -185,20 +185,20 @@ test_output() {
     local words
     for words in "state 7" "verdict 4" "supply 4 2017-12-04 10.00 low" "dates 4 2017-12-04 10.00" "verdict $samples/hole.plan" "release 7 out"; do
         ended=0
-        bash "$emulate" "$work/approval" register $words >/dev/full 2>told || ended=$?
+        "$work/approval" register $words >/dev/full 2>told || ended=$?
         [ "$ended" -ge 3 ] && [ -s told ] || wrong "'$words' to a full disk: ended with $ended"
         ended=0
-        bash "$emulate" "$work/approval" register $words >&- 2>told || ended=$?
+        "$work/approval" register $words >&- 2>told || ended=$?
         [ "$ended" -ge 3 ] && [ -s told ] || wrong "'$words' to a closed stream: ended with $ended"
-        (trap '' PIPE; (sleep 0.2; ended=0; bash "$emulate" "$work/approval" register $words 2>told || ended=$?; echo $ended >status) | :)
+        (trap '' PIPE; (sleep 0.2; ended=0; "$work/approval" register $words 2>told || ended=$?; echo $ended >status) | :)
         [ "$(cat status)" -ge 3 ] && [ -s told ] || wrong "'$words' to nobody: ended with $(cat status)"
     done
     cp register before
     ended=0
-    bash "$emulate" "$work/approval" register drop 7 >/dev/full 2>told || ended=$?
+    "$work/approval" register drop 7 >/dev/full 2>told || ended=$?
     [ "$ended" -eq 4 ] && ! cmp -s register before || wrong "a change that could not be told: ended with $ended"
     grep -q "has been done all the same" told || wrong "nothing says that the change was made"
-    bash "$emulate" "$work/approval" register submit 4 >&- 2>&- && wrong "a change with no stream to tell it"
+    "$work/approval" register submit 4 >&- 2>&- && wrong "a change with no stream to tell it"
     screen state 7
     expect 1 "what closed streams left"
     nothing_beside

@@ -116,7 +116,7 @@ test_cut_short() {
 
 # Two users of one group, where this can be tried: the file stays both's.
 test_second_pharmacist() {
-    by() { setpriv --reuid="$1" --regid="$1" --groups=7000 bash "$emulate" "${@:2}"; }
+    by() { setpriv --reuid="$1" --regid="$1" --groups=7000 "${@:2}"; }
     as() { by "$1" "$work/approval" register "${@:2}" >said 2>told; }
     if ! by 7001 "$work/renumber" 7 4 <"$samples/revision-4.plan" 2>/dev/null | cmp -s - "$samples/revision-4.plan"; then
         echo "approval: no second user can be tried here"
@@ -149,6 +149,6 @@ test_second_pharmacist() {
     chmod 640 register
     ! as 7001 drop 7 || wrong "a mode that forbids writing was passed over"
     chown 7003:7004 register
-    bash "$emulate" "$work/approval" register drop 7 >said 2>told || wrong "the superuser drops"
+    "$work/approval" register drop 7 >said 2>told || wrong "the superuser drops"
     [ "$(stat -c '%a %u %g' register)" = "640 7003 7004" ] || wrong "the owner was changed"
 }
