@@ -1,0 +1,13 @@
+use Prim.Native.Nat.{◌-◌, ◌≤◌}
+use mathlib.Core.Path.{◌≡◌}
+use native.Mathlib.Omega.{arith}
+use borrow.Author.Rules.{rules}
+use Rattle.plan.specs.Periods.{dose_in}
+use Rattle.supply.proofs.Range.{Sums, sums_begin, sums_small, sums_go_on, sums_stop}
+use Rattle.supply.proofs.position.due_at.Given as goal
+
+abbrev pub invariant-loop-j : goal.invariant-loop-j
+invariant-loop-j l = Sums l.choice l.plan l.b l.position l.n l.j l.need
+
+abbrev pub decreases-loop-j : goal.decreases-loop-j
+decreases-loop-j l = l.n - l.j
