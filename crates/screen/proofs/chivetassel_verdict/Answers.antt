@@ -1,0 +1,5 @@
+use borrow.Author.Rules.{rules}
+use Rattle.screen.proofs.chivetassel_verdict.Goals as goal
+
+pub returns : goal.returns
+returns c = cc
