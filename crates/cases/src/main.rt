@@ -2,34 +2,50 @@
 // plans and what document 01 says of them are made by tests/cases.py.
 #![tactic(auto)]
 
+ghost use Rattle.std.specs.Io.{ReadsAtMost};
+
 use block::word_at;
+use refusal::Refusal;
+use std::io;
+use std::io::Read;
 use verdict::{refusal_of, verdict};
 
-fn report(plan: &[u8]) {
-    let r = refusal_of(verdict(plan));
-    io::print_decimal(1, r.number as u64);
-    io::write_all(1, b" ");
-    io::print_decimal(1, r.place as u64);
-    io::write_all(1, b"\n");
+fn report(out: &impl Print, plan: &[u8]) -> io::Result<()> {
+    let Refusal { number, place } = refusal_of(verdict(plan));
+    println!(out; "{number} {place}")
 }
 
-fn report_all(plans: &[u8]) {
-    let n = plans.len();
-    let mut at: usize = 0;
-    while at < n {
-        let length = word_at(plans, at) as usize;
-        let from = at + 4;
-        let end = from + length;
-        if n < end {
-            return;
+// A plan that the input ends within is not judged.
+fn report_all(out: &impl Print, plans: &[u8]) -> io::Result<()> {
+    let mut rest = plans;
+    while !rest.is_empty() {
+        let end = 4 + word_at(rest, 0) as usize;
+        if rest.len() < end {
+            break;
         }
-        report(&plans[from..end]);
-        at = end;
+        report(out, &rest[4..end])?;
+        rest = &rest[end..];
     }
+    Ok(())
 }
 
-fn main() {
+// Reads until the input ends or the buffer is full, and gives how many bytes now stand at the buffer's start.
+fn read_full(input: &mut impl Read, buffer: &mut [u8]) -> io::Result<usize>
+    ensures { ReadsAtMost result buffer.new }
+{
+    let mut done = 0;
+    while done < buffer.len() {
+        let more = input.read(&mut buffer[done..])?;
+        if more == 0 {
+            break;
+        }
+        done += more;
+    }
+    Ok(done)
+}
+
+fn main(rt: HostRuntime) -> io::Result<()> {
     let mut plans = [0u8; 262144];
-    let n = io::read_full(0, &mut plans);
-    report_all(&plans[..n]);
+    let n = read_full(&mut rt.stdin(), &mut plans)?;
+    report_all(&rt, &plans[..n])
 }

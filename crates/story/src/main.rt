@@ -3,80 +3,86 @@
 
 use block::byte_at;
 use refusal::Refusal;
-use register::{clear, drop_plan, release, sign, state_of, submit};
+use register::{Released, State, clear, drop_plan, release, sign, state_of, submit};
+use std::io;
+use std::io::Read;
 
 const A: u32 = 101;
 
 const B: u32 = 202;
 
-fn report(call: &[u8], r: Refusal) {
-    io::write_all(1, call);
-    io::write_all(1, b" ");
-    io::print_decimal(1, r.number as u64);
-    io::write_all(1, b" ");
-    io::print_decimal(1, r.place as u64);
-    io::write_all(1, b"\n");
+fn report(out: &impl Print, call: &str, refusal: Refusal) -> io::Result<()> {
+    let Refusal { number, place } = refusal;
+    println!(out; "{call} {number} {place}")
 }
 
-fn report_state(register: &[u8]) {
-    let s = state_of(register, 7);
-    report(b"state", s.refusal);
-    io::write_all(1, b"  revision ");
-    io::print_decimal(1, s.revision as u64);
-    io::write_all(1, b", signers ");
-    io::print_decimal(1, s.signers as u64);
-    io::write_all(1, b"\n");
+fn report_state(out: &impl Print, register: &[u8]) -> io::Result<()> {
+    let State {
+        refusal,
+        revision,
+        signers,
+    } = state_of(register, 7);
+    report(out, "state", refusal)?;
+    println!(out; "  revision {revision}, signers {signers}")
 }
 
-fn report_release(register: &[u8]) {
+fn report_release(out: &impl Print, register: &[u8]) -> io::Result<()> {
     let mut room = [0u8; 16384];
-    let x = release(register, 7, &mut room);
-    report(b"release", x.refusal);
-    io::write_all(1, b"  bytes ");
-    io::print_decimal(1, x.length as u64);
-    io::write_all(1, b", of revision ");
-    io::print_decimal(1, byte_at(&room, 16) as u64);
-    io::write_all(1, b"\n");
+    let Released { refusal, length } = release(register, 7, &mut room);
+    let revision = byte_at(&room, 16);
+    report(out, "release", refusal)?;
+    println!(out; "  bytes {length}, of revision {revision}")
 }
 
 // P14: one has signed revision 4, the other revision 5.
-fn submit_and_sign(register: &mut [u8], four: &[u8], five: &[u8]) {
-    report(b"submit 4", submit(&mut *register, four));
-    report(b"sign 4 by A", sign(&mut *register, A, four));
-    report(b"submit 5", submit(&mut *register, five));
-    report(b"sign 5 by B", sign(&mut *register, B, five));
+fn submit_and_sign(
+    out: &impl Print,
+    register: &mut [u8],
+    four: &[u8],
+    five: &[u8],
+) -> io::Result<()> {
+    report(out, "submit 4", submit(register, four))?;
+    report(out, "sign 4 by A", sign(register, A, four))?;
+    report(out, "submit 5", submit(register, five))?;
+    report(out, "sign 5 by B", sign(register, B, five))
 }
 
 // Neither the old revision nor the same signer will do.
-fn sign_again(register: &mut [u8], four: &[u8], five: &[u8]) {
-    report(b"sign 4 by A", sign(&mut *register, A, four));
-    report(b"sign 5 by B", sign(&mut *register, B, five));
+fn sign_again(out: &impl Print, register: &mut [u8], four: &[u8], five: &[u8]) -> io::Result<()> {
+    report(out, "sign 4 by A", sign(register, A, four))?;
+    report(out, "sign 5 by B", sign(register, B, five))
 }
 
 // Two have signed revision 5.
-fn sign_by_a(register: &mut [u8], five: &[u8]) {
-    report_state(&*register);
-    report(b"sign 5 by A", sign(&mut *register, A, five));
-    report_state(&*register);
-    report_release(&*register);
+fn sign_by_a(out: &impl Print, register: &mut [u8], five: &[u8]) -> io::Result<()> {
+    report_state(out, register)?;
+    report(out, "sign 5 by A", sign(register, A, five))?;
+    report_state(out, register)?;
+    report_release(out, register)
 }
 
-fn drop_it(register: &mut [u8], four: &[u8]) {
-    report(b"submit 4", submit(&mut *register, four));
-    report(b"drop", drop_plan(&mut *register, 7));
+fn drop_it(out: &impl Print, register: &mut [u8], four: &[u8]) -> io::Result<()> {
+    report(out, "submit 4", submit(register, four))?;
+    report(out, "drop", drop_plan(register, 7))
 }
 
-fn main() {
-    let mut four = [0u8; 1024];
-    let mut five = [0u8; 1024];
+// A plan of two blocks from the input. Where the input ends within it, its rest is zeros.
+fn read_plan(input: &mut impl Read) -> io::Result<[u8; 1024]> {
+    let mut plan = [0u8; 1024];
+    io::copy(&mut input.take(1024), &mut &mut plan[..])?;
+    Ok(plan)
+}
+
+fn main(rt: HostRuntime) -> io::Result<()> {
+    let mut input = rt.stdin();
+    let four = read_plan(&mut input)?;
+    let five = read_plan(&mut input)?;
     let mut register = [0u8; 33792];
-    io::read_full(0, &mut four);
-    io::read_full(0, &mut five);
-    report(b"clear", clear(&mut register));
-    submit_and_sign(&mut register, &four, &five);
-    report_release(&register);
-    sign_again(&mut register, &four, &five);
-    sign_by_a(&mut register, &five);
-    drop_it(&mut register, &four);
-    report_release(&register);
+    report(&rt, "clear", clear(&mut register))?;
+    submit_and_sign(&rt, &mut register, &four, &five)?;
+    report_release(&rt, &register)?;
+    sign_again(&rt, &mut register, &four, &five)?;
+    sign_by_a(&rt, &mut register, &five)?;
+    drop_it(&rt, &mut register, &four)?;
+    report_release(&rt, &register)
 }
