@@ -1,7 +1,7 @@
 -- Laws of counts, sums and the largest: each loop's turn, its end, and bounds. Assumes nothing.
 use Prim.Native.Nat.{ℕ, zero, suc, ◌+◌, ◌*◌, ◌≤◌, ◌<◌, max}
 use mathlib.Core.Bool.{Bool, true, false, cond}
-use mathlib.Core.Logic.{◌⊎◌, ⊎_elim}
+use mathlib.Core.Logic.{⊎_elim}
 use mathlib.Core.Path.{◌≡◌, refl}
 use native.Mathlib.Nat.{eq-or-lt_of_le, not-suc-le-zero, suc-mul}
 use native.Mathlib.Numerals.{add-one}

@@ -1,7 +1,7 @@
 -- The stop day: a turn of the loop that finds it. Assumes nothing.
-use Rattle.std.proofs.Common.{◌≡◌, ℕ, zero, suc, ◌+◌, ◌-◌, ◌<◌, ◌≤◌, max, Bool, true, false, cond, sym, refl, ◌∙◌, arith}
+use Rattle.std.proofs.Common.{◌≡◌, ℕ, zero, suc, ◌+◌, ◌<◌, ◌≤◌, max, Bool, true, false, cond, sym, refl, ◌∙◌, arith}
 use mathlib.Core.Bool.{or-false}
-use Rattle.below.proofs.Search.{any_zero, any_more, any_same}
+use Rattle.below.proofs.Search.{any_zero, any_more}
 use Rattle.below.proofs.Tests.{or_true}
 use Rattle.below.proofs.Total.{largest_zero, largest_more}
 use Rattle.below.specs.Below.{any_below, largest_below}

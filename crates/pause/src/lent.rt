@@ -1,5 +1,4 @@
-// Pauses as a lent slice of records. The borrow checker covers no function here: each is short, leaves its work to
-// functions on plain numbers and values, and has its proof by hand.
+// Pauses as a lent slice of records. Each function here is short, and leaves its work to functions on plain numbers and values.
 ghost use Rattle.std.specs.Prelude.{◌≡◌, get_or};
 ghost use Rattle.pause.specs.Pauses.{no_day, is_paused, are_out};
 ghost use Rattle.pause.specs.Sight.{sight_of, sight_on};
@@ -30,8 +29,7 @@ pub fn paused(ps: &[Pause], day: u32) -> bool
     hit
 }
 
-// 21: are there more than 32 pauses, or is one of them out? Its locals stand as those of `paused`, so that one walk proves both
-// loops, and that of `sight_from`.
+// 21: are there more than 32 pauses, or is one of them out?
 pub fn are_out(ps: &[Pause]) -> bool
     ensures { result ≡ are_out ps.now }
 {

@@ -8,7 +8,7 @@ use native.Mathlib.Omega.{arith}
 use lib.Dec.{eqb, ltb}
 use borrow.Author.Tests.{eqb-true, eqb-false}
 use Rattle.below.proofs.Search.{any_none}
-use Rattle.below.proofs.Tests.{bool_cases, and_false}
+use Rattle.below.proofs.Tests.{bool_cases}
 use Rattle.day.specs.Days.{open_mark}
 use Rattle.need.specs.Need.{is_choice, choice_of, need_on, stops_at, has_stop_by, stop_day, has_stop}
 use Rattle.pause.specs.declared.Pause.{Pause}

@@ -4,9 +4,8 @@ use mathlib.Core.Bool.{Bool, true, false, cond}
 use mathlib.Core.List.{List}
 use mathlib.Core.Logic.{⊎_elim}
 use mathlib.Core.Path.{◌≡◌, refl, sym, ap, ◌∙◌}
-use native.Mathlib.Omega.{arith}
 use lib.Dec.{eqb, ltb}
-use borrow.Author.Tests.{eq-eqb, ne_eqb, eqb-true, eqb-false}
+use borrow.Author.Tests.{ne_eqb}
 use Rattle.below.proofs.Tests.{bool_cases, true_not_false}
 use Rattle.need.proofs.Telling.{tells}
 use Rattle.need.specs.Need.{stop_day, has_stop}
@@ -20,15 +19,13 @@ use Rattle.verdict.proofs.Passing.{accepted_classed}
 use Rattle.verdict.specs.Classes.{classes_by}
 use Rattle.verdict.specs.Verdict.{verdict_of}
 use Rattle.verdict.specs.declared.Answer.TheVariants.{Accepted, Broken}
-use Rattle.supply.specs.Dates.{is_ranging, is_needed, date_by, set_of, set_by, dates_of}
-use Rattle.supply.specs.Supply.{asked_by, own_by, judged_of, passed_on, lasting_in, supply_of}
-use Rattle.supply.specs.Code.Asking.{is_asked, answered_by, Judged, ForSupply, ForDates, set_from}
+use Rattle.supply.specs.Dates.{is_ranging, is_needed, date_by, set_of, dates_of}
+use Rattle.supply.specs.Supply.{asked_by, own_by, judged_of, lasting_in, supply_of}
+use Rattle.supply.specs.Code.Asking.{is_asked, answered_by, ForSupply, ForDates, set_from}
 use Rattle.supply.specs.declared.ask.Asked.{Asked}
 use Rattle.supply.specs.declared.Dates.{Dates}
-use Rattle.supply.specs.declared.DateSet.{DateSet}
 use Rattle.supply.specs.declared.DateSet.TheVariants as set
 use Rattle.supply.specs.declared.Supply.{Supply}
-use Rattle.supply.specs.declared.Supply.TheVariants.{Refused}
 use Rattle.supply.proofs.Accepted.{orderly}
 use Rattle.supply.proofs.Sets.{set_same}
 use Rattle.supply.proofs.Refusing.{fair, asked_none, asked_first}

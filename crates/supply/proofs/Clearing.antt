@@ -1,31 +1,28 @@
 -- Of which period whole rounds may be taken on a day, pauses apart, and up to which day. Assumes nothing.
-use Prim.Native.Nat.{ℕ, ◌+◌, ◌-◌, ◌≤◌, ◌<◌, min}
-use mathlib.Core.Bool.{Bool, true, false, cond, not, ◌&&◌}
+use Prim.Native.Nat.{ℕ, ◌+◌, ◌≤◌, ◌<◌}
+use mathlib.Core.Bool.{Bool, true, false, not, ◌&&◌}
 use mathlib.Core.List.{List}
 use mathlib.Core.Logic.{⊎_elim}
 use mathlib.Core.Path.{◌≡◌, refl, sym, subst, ◌∙◌}
 use native.Mathlib.Nat.{eq-or-lt_of_le}
 use native.Mathlib.Omega.{arith}
 use lib.Dec.{eqb, leb, ltb}
-use lib.ListN.{get_or}
-use borrow.Author.Tests.{eqb-true, eq-eqb, ne_eqb, lt-ltb, le-ltb, le-leb, lt-leb, leb-true, leb-false, not-true, not-false}
-use Rattle.below.proofs.Search.{first_is, first_none, first_same, first_facts, any_not, any_none, any_hit, any_more, any_zero, any_same}
-use Rattle.below.proofs.Tests.{bool_cases, and_both, and_false, or_false, or_true, true_not_false, le_or_lt, same_or_not}
+use borrow.Author.Tests.{eqb-true, eq-eqb, ne_eqb, lt-ltb, le-leb, lt-leb, leb-true, not-true, not-false}
+use Rattle.below.proofs.Search.{first_is, first_none, first_same, first_facts, any_not, any_none, any_hit, any_same}
+use Rattle.below.proofs.Tests.{bool_cases, and_both, and_false, true_not_false, le_or_lt, same_or_not}
 use Rattle.below.specs.Below.{any_below}
-use Rattle.day.specs.Days.{last_number, open_mark}
 use Rattle.doses.specs.Doses.{covers}
-use Rattle.need.specs.Need.{choice_of, due_on}
+use Rattle.need.specs.Need.{due_on}
 use Rattle.plan.specs.Fields.{interval_of, first_of, last_of}
-use Rattle.plan.specs.Periods.{blocks_of, block_at, is_period, doses_of}
+use Rattle.plan.specs.Periods.{blocks_of, block_at, is_period}
 use Rattle.supply.specs.Covered.{summed}
 use Rattle.supply.specs.Steps.{is_chosen, has_other, is_alone}
-use Rattle.supply.specs.Code.Standing.{Small, Orderly, Counts, IsAt, kept_of, need_of, round_need, need_in, Reach, alone_on, Rounded, Steady, InBoth}
+use Rattle.supply.specs.Code.Standing.{Orderly, Counts, IsAt, kept_of, need_of, round_need, need_in, Reach, alone_on, Rounded, Steady, InBoth}
 use Rattle.supply.specs.declared.place.Candidate.{Candidate}
 use Rattle.supply.specs.declared.rounds.Round.{Round}
 use Rattle.supply.proofs.Accepted.{covers_period, covers_begun}
 use Rattle.supply.proofs.Covering.{summed_one}
-use Rattle.supply.proofs.WholeRounds.{idle_need, chosen_class, alone_need, one_round}
-use Rattle.verdict.specs.Code.Ready.{Classed}
+use Rattle.supply.proofs.WholeRounds.{idle_need, alone_need, one_round}
 
 -- a period that is kept only if it has doses of the choice needs what it needs
 module _ {choice : ℕ} {p : List ℕ} {b : ℕ} {t : Candidate} (x : IsAt choice p b t) where

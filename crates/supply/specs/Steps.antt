@@ -1,6 +1,6 @@
 -- Document 02, W12: "Count the steps of a definition, a step being one day or one block of rounds". Supply is told here in such steps. What
 -- it answers is document 01's answer, and how many steps there are has its bounds: promises/specs/Rounds.antt.
-use Rattle.std.specs.Prelude.{ℕ, zero, suc, ◌+◌, ◌-◌, ◌*◌, Bool, cond, not, ◌&&◌, ◌||◌, List, eqb, leb, ltb}
+use Rattle.std.specs.Prelude.{ℕ, zero, suc, ◌+◌, ◌-◌, ◌*◌, Bool, cond, not, ◌&&◌, List, eqb, leb, ltb}
 use Rattle.below.specs.Below.{first_below, any_below, all_below}
 use Rattle.day.specs.Days.{last_number, open_mark}
 use Rattle.doses.specs.Doses.{covers}

@@ -1,5 +1,5 @@
 // Supply and the set of dates with the pauses as a lent list of records: the ways in, and the walk, which asks the list what it says from a
-// day on. The borrow checker covers none: each is short, leaves its work to functions on values, and has its proof by hand.
+// day on. Each is short, and leaves its work to functions on values.
 ghost use Rattle.std.specs.Prelude.{◌≡◌};
 ghost use Rattle.supply.specs.Dates.{dates_of};
 ghost use Rattle.supply.specs.Supply.{supply_of};

@@ -7,8 +7,7 @@ use crate::lent::{dates_of, supply_of};
 use crate::{DateSet, Supply};
 use pause::{Pause, packed_count, packed_records};
 
-// The first n records, lent as a list. The borrow checker does not cover the function, since it lends an array of records: its
-// proof is by hand.
+// The first n records, lent as a list.
 fn supply_lent(plan: &[u8], start: u32, pack: u64, choice: u32, at: [Pause; 32], n: usize) -> Supply
     requires { n ≤ 32 }
     ensures { result ≡ supply_of plan.now start pack choice (take n at) }

@@ -1,4 +1,3 @@
-use borrow.Author.Rules.{rules}
 use Rattle.day.proofs.is_no_span.Goals as goal
 
 pub returns : goal.returns

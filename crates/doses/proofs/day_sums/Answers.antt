@@ -1,7 +1,6 @@
-use Rattle.std.proofs.Common.{◌≡◌, ◌-◌, ◌≤◌, min, true, false, cond, [], ⊎_elim, arith, rules}
+use Rattle.std.proofs.Common.{◌≡◌, min, true, false, cond, [], arith, rules}
 use Rattle.plan.specs.Periods.{blocks_of}
 use Rattle.doses.specs.Doses.{covers, doses_of_period, doses_on, added_all, no_sums, day_sums}
-use Rattle.below.specs.Lists.{join_below}
 use Rattle.below.proofs.Lists.{join_zero}
 use Rattle.doses.proofs.Sums.{join_hit, join_miss}
 use Rattle.doses.proofs.day_sums.Goals as goal
@@ -19,12 +18,12 @@ loop-b-preserved c = let l = c.loop-b in
       search rules,
       search rules,
       elim c.if-is_covering.branch [
-          then-is_covering w ↦
-          let h : covers p a.day l.b ≡ true = cc in
-          join_hit no_sums l.b (λ k. cond (covers p a.day k) (doses_of_period p a.day k) []) l.invariant.2 {xs = doses_of_period p a.day l.b} (rw h) (cc)
-          | else-is_covering w ↦
-          let h : covers p a.day l.b ≡ false = cc in
-          cc (join_miss no_sums l.b (λ k. cond (covers p a.day k) (doses_of_period p a.day k) []) l.invariant.2 (rw h))
+        | then-is_covering w ↦
+            let h : covers p a.day l.b ≡ true = cc in
+            join_hit no_sums l.b (λ k. cond (covers p a.day k) (doses_of_period p a.day k) []) l.invariant.2 {xs = doses_of_period p a.day l.b} (rw h) (cc)
+        | else-is_covering w ↦
+            let h : covers p a.day l.b ≡ false = cc in
+            cc (join_miss no_sums l.b (λ k. cond (covers p a.day k) (doses_of_period p a.day k) []) l.invariant.2 (rw h))
       ],
     )
 

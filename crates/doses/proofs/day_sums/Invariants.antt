@@ -1,9 +1,7 @@
-use Rattle.std.proofs.Common.{◌≡◌, ◌-◌, ◌≤◌, min, true, false, cond, [], ⊎_elim, arith, rules}
+use Rattle.std.proofs.Common.{◌≡◌, ◌-◌, ◌≤◌, min, cond, []}
 use Rattle.plan.specs.Periods.{blocks_of}
-use Rattle.doses.specs.Doses.{covers, doses_of_period, doses_on, added_all, no_sums, day_sums}
+use Rattle.doses.specs.Doses.{covers, doses_of_period, added_all, no_sums}
 use Rattle.below.specs.Lists.{join_below}
-use Rattle.below.proofs.Lists.{join_zero}
-use Rattle.doses.proofs.Sums.{join_hit, join_miss}
 use Rattle.doses.proofs.day_sums.Given as goal
 
 abbrev pub invariant-loop-b : goal.invariant-loop-b

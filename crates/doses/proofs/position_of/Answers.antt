@@ -1,5 +1,5 @@
 use native.Mathlib.Nat.{mod-le}
-use Rattle.std.proofs.Common.{arith, rules, eq-eqb, ne_eqb}
+use Rattle.std.proofs.Common.{arith, eq-eqb, ne_eqb}
 use Rattle.doses.specs.Doses.{position_of}
 use Rattle.doses.proofs.position_of.Goals as goal
 

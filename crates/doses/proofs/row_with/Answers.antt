@@ -1,4 +1,3 @@
-use Rattle.std.proofs.Common.{rules}
 use Rattle.doses.proofs.row_with.Goals as goal
 
 pub returns : goal.returns

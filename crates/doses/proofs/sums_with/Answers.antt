@@ -1,4 +1,4 @@
-use Rattle.std.proofs.Common.{sym, ◌∙◌, rules}
+use Rattle.std.proofs.Common.{sym, ◌∙◌}
 use Rattle.doses.specs.Doses.{added}
 use Rattle.doses.proofs.sums_with.Goals as goal
 

@@ -1,8 +1,7 @@
-use Rattle.std.proofs.Common.{◌≡◌, ◌-◌, ◌≤◌, true, false, ⊎_elim, arith, rules}
+use Rattle.std.proofs.Common.{◌≡◌, true, false, arith, rules}
 use Rattle.plan.specs.Fields.{header_of}
 use Rattle.plan.specs.Periods.{block_at, doses_of, dose_in}
 use Rattle.doses.specs.Doses.{position_of, applies, doses_of_period, added_all}
-use Rattle.below.specs.Lists.{pick_below}
 use Rattle.below.proofs.Lists.{pick_zero}
 use Rattle.doses.proofs.Sums.{turn_hit, turn_miss}
 use Rattle.doses.proofs.with_period.Goals as goal
@@ -21,8 +20,8 @@ loop-j-preserved c = let l = c.loop-j in
       search rules,
       search rules,
       elim c.if-is_applied.branch [
-          then-is_applied w ↦ let h : applies x (dose_in a.plan.now a.b l.j) ≡ true = cc in turn_hit a.sums l.j (λ k. applies x (dose_in a.plan.now a.b k)) (dose_in a.plan.now a.b) l.invariant.2 h (cc)
-          | else-is_applied w ↦ let h : applies x (dose_in a.plan.now a.b l.j) ≡ false = cc in cc (turn_miss a.sums l.j (λ k. applies x (dose_in a.plan.now a.b k)) (dose_in a.plan.now a.b) l.invariant.2 h)
+        | then-is_applied w ↦ let h : applies x (dose_in a.plan.now a.b l.j) ≡ true = cc in turn_hit a.sums l.j (λ k. applies x (dose_in a.plan.now a.b k)) (dose_in a.plan.now a.b) l.invariant.2 h (cc)
+        | else-is_applied w ↦ let h : applies x (dose_in a.plan.now a.b l.j) ≡ false = cc in cc (turn_miss a.sums l.j (λ k. applies x (dose_in a.plan.now a.b k)) (dose_in a.plan.now a.b) l.invariant.2 h)
       ],
     )
 

@@ -1,10 +1,7 @@
-use Rattle.std.proofs.Common.{◌≡◌, ◌-◌, ◌≤◌, true, false, ⊎_elim, arith, rules}
-use Rattle.plan.specs.Fields.{header_of}
-use Rattle.plan.specs.Periods.{block_at, doses_of, dose_in}
-use Rattle.doses.specs.Doses.{position_of, applies, doses_of_period, added_all}
+use Rattle.std.proofs.Common.{◌≡◌, ◌-◌, ◌≤◌}
+use Rattle.plan.specs.Periods.{doses_of, dose_in}
+use Rattle.doses.specs.Doses.{applies, added_all}
 use Rattle.below.specs.Lists.{pick_below}
-use Rattle.below.proofs.Lists.{pick_zero}
-use Rattle.doses.proofs.Sums.{turn_hit, turn_miss}
 use Rattle.doses.proofs.with_period.Given as goal
 
 abbrev pub invariant-loop-j : goal.invariant-loop-j

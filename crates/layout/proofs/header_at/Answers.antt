@@ -1,5 +1,4 @@
 use Rattle.layout.specs.Reading.{header_at}
-use borrow.Author.Rules.{rules}
 use Rattle.layout.proofs.header_at.Goals as goal
 
 pub returns : goal.returns

@@ -1,6 +1,5 @@
 use mathlib.Core.Path.{◌∙◌}
 use Rattle.period.proofs.Ruling as ruling
-use borrow.Author.Rules.{rules}
 use Rattle.period.proofs.judge_doses.Goals as goal
 
 pub returns : goal.returns

@@ -1,5 +1,4 @@
 use mathlib.Core.Path.{ap, ◌∙◌}
-use borrow.Author.Rules.{rules}
 use Rattle.refusal.specs.Refusals.{code_of}
 use Rattle.refusal.proofs.done.Goals as goal
 

@@ -3,7 +3,6 @@ use borrow.Author.Tests.{lt-ltb, le-ltb, eq-eqb, ne_eqb}
 use Rattle.refusal.specs.Refusals.{code_of}
 use Rattle.register.specs.Steps.{Answered}
 use Rattle.screen.specs.Calls.{written}
-use borrow.Author.Rules.{rules}
 use Rattle.screen.proofs.chivetassel_release.Goals as goal
 
 pub returns-then-out-lt8 : goal.returns-then-out-lt8

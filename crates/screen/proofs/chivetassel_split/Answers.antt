@@ -1,7 +1,6 @@
 use mathlib.Core.Path.{ap, ◌∙◌}
 use borrow.Author.Tests.{lt-ltb, le-ltb}
 use Rattle.refusal.specs.Refusals.{code_of}
-use borrow.Author.Rules.{rules}
 use Rattle.screen.proofs.chivetassel_split.Goals as goal
 
 pub returns-then-out-lt16 : goal.returns-then-out-lt16

@@ -2,7 +2,6 @@ use mathlib.Core.Path.{ap, ◌∙◌}
 use borrow.Author.Tests.{lt-ltb, le-ltb, eq-eqb, ne_eqb}
 use Rattle.refusal.specs.Refusals.{code_of}
 use Rattle.register.specs.Steps.{Answered}
-use borrow.Author.Rules.{rules}
 use Rattle.screen.proofs.chivetassel_state.Goals as goal
 
 pub returns-then-out-lt16 : goal.returns-then-out-lt16

@@ -1,7 +1,6 @@
 use mathlib.Core.Path.{ap, ◌∙◌}
 use Rattle.refusal.specs.Refusals.{code_of}
 use Rattle.register.specs.Steps.{Answered}
-use borrow.Author.Rules.{rules}
 use Rattle.screen.proofs.chivetassel_submit.Goals as goal
 
 pub returns : goal.returns

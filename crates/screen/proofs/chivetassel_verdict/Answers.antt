@@ -1,4 +1,3 @@
-use borrow.Author.Rules.{rules}
 use Rattle.screen.proofs.chivetassel_verdict.Goals as goal
 
 pub returns : goal.returns

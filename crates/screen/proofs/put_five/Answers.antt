@@ -1,4 +1,3 @@
-use borrow.Author.Rules.{rules}
 use Rattle.screen.specs.Calls.{written}
 use Rattle.screen.proofs.put_five.Goals as goal
 

@@ -1,5 +1,4 @@
 use Rattle.screen.specs.Calls.{written}
-use borrow.Author.Rules.{rules}
 use Rattle.screen.proofs.put_two.Goals as goal
 
 pub returns : goal.returns

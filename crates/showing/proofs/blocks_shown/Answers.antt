@@ -1,4 +1,3 @@
-use borrow.Author.Rules.{rules}
 use Rattle.showing.proofs.blocks_shown.Goals as goal
 
 pub returns : goal.returns

@@ -1,10 +1,7 @@
-use Prim.Native.Nat.{◌≤◌, ◌-◌}
-use mathlib.Core.Path.{◌≡◌, sym, ◌∙◌}
+use mathlib.Core.Path.{sym, ◌∙◌}
 use native.Mathlib.Omega.{arith}
 use borrow.Author.Rules.{rules}
-use Rattle.below.proofs.Search.{NoneBelow, none_zero, none_more, first_is, first_end}
-use Rattle.plan.specs.Periods.{blocks_of}
-use Rattle.doses.specs.Doses.{covers}
+use Rattle.below.proofs.Search.{none_zero, none_more, first_is, first_end}
 use Rattle.showing.proofs.first_covering.Goals as goal
 
 pub loop-b-init : goal.loop-b-init

@@ -1,8 +1,6 @@
 use Prim.Native.Nat.{◌≤◌, ◌-◌}
-use mathlib.Core.Path.{◌≡◌, sym, ◌∙◌}
-use native.Mathlib.Omega.{arith}
-use borrow.Author.Rules.{rules}
-use Rattle.below.proofs.Search.{NoneBelow, none_zero, none_more, first_is, first_end}
+use mathlib.Core.Path.{◌≡◌}
+use Rattle.below.proofs.Search.{NoneBelow}
 use Rattle.plan.specs.Periods.{blocks_of}
 use Rattle.doses.specs.Doses.{covers}
 use Rattle.showing.proofs.first_covering.Given as goal

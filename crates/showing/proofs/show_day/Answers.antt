@@ -1,6 +1,5 @@
 use native.Mathlib.Omega.{arith}
 use borrow.Author.Tests.{eq-eqb, ne_eqb}
-use borrow.Author.Rules.{rules}
 use Rattle.showing.specs.Showing.{stretch_of, shown}
 use Rattle.showing.proofs.Stretches.{shown_empty}
 use Rattle.showing.proofs.show_day.Goals as goal

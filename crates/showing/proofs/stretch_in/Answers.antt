@@ -1,7 +1,6 @@
 use Prim.Native.Nat.{◌≤◌, ◌<◌}
 use mathlib.Core.Path.{◌≡◌, sym, ◌∙◌}
 use native.Mathlib.Omega.{arith}
-use borrow.Author.Rules.{rules}
 use Rattle.plan.specs.Periods.{blocks_of}
 use Rattle.showing.specs.Showing.{first_covering, shown_in}
 use Rattle.showing.proofs.Stretches.{whole_right, shown_broken, shown_first, shown_none, shown_inside}

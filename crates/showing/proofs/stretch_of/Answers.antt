@@ -1,6 +1,5 @@
 use mathlib.Core.Path.{sym, ◌∙◌}
 use borrow.Author.Tests.{eq-eqb, ne_eqb}
-use borrow.Author.Rules.{rules}
 use Rattle.showing.specs.Showing.{stretch_of}
 use Rattle.showing.proofs.Stretches.{shown_empty}
 use Rattle.showing.proofs.stretch_of.Goals as goal

@@ -1,5 +1,5 @@
 -- The walk by steps: where it begins, a step of it, and where it ends. No answer is stated by these.
-use Rattle.std.specs.Prelude.{ℕ, ◌+◌, ◌-◌, ◌*◌, ◌≤◌, ◌<◌, min, ◌≡◌, Bool, true, false, cond, List, ◌⊎◌, eqb, leb, ltb}
+use Rattle.std.specs.Prelude.{ℕ, ◌+◌, ◌-◌, ◌*◌, ◌≤◌, ◌<◌, min, ◌≡◌, true, false, cond, List, ◌⊎◌, eqb, leb, ltb}
 use Rattle.day.specs.Days.{last_number, open_mark}
 use Rattle.need.specs.Telling.{Tells}
 use Rattle.pause.specs.Pauses.{is_paused}

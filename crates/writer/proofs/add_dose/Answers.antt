@@ -1,6 +1,5 @@
 use mathlib.Core.Path.{sym, ◌∙◌}
 use borrow.Author.Rules.{rules}
-use borrow.Author.Tests.{not-true, not-false}
 use Rattle.writer.proofs.Steps.{dose_none, dose_last, dose_full, dose_more}
 use Rattle.writer.proofs.Room.{room_is, begun_is}
 use Rattle.writer.proofs.add_dose.Goals as goal

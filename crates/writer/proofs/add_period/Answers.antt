@@ -1,6 +1,5 @@
 use mathlib.Core.Path.{sym, ◌∙◌}
 use borrow.Author.Rules.{rules}
-use borrow.Author.Tests.{not-true, not-false}
 use Rattle.writer.proofs.Room.{room_is}
 use Rattle.writer.proofs.Steps.{period_none, period_done}
 use Rattle.writer.proofs.add_period.Goals as goal

@@ -1,6 +1,5 @@
 use mathlib.Core.Path.{sym, ◌∙◌}
 use borrow.Author.Rules.{rules}
-use borrow.Author.Tests.{not-true, not-false}
 use Rattle.writer.proofs.Steps.{finish_none, finish_done}
 use Rattle.writer.proofs.Room.{begun_is}
 use Rattle.writer.proofs.finish.Goals as goal

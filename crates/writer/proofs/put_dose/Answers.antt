@@ -1,6 +1,5 @@
 use Rattle.writer.proofs.Steps.{dose_put_is}
 use mathlib.Core.Path.{◌∙◌}
-use borrow.Author.Rules.{rules}
 use Rattle.writer.proofs.put_dose.Goals as goal
 
 pub returns : goal.returns

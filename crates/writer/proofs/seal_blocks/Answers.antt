@@ -1,9 +1,7 @@
-use Prim.Native.Nat.{◌-◌, ◌≤◌}
+use Prim.Native.Nat.{◌-◌}
 use mathlib.Core.Path.{◌≡◌, sym, ◌∙◌}
 use native.Mathlib.Omega.{arith}
-use lib.ListN.{length}
 use borrow.Author.Rules.{rules}
-use Rattle.writer.specs.Steps.{sealed_from}
 use Rattle.writer.proofs.Steps.{seal_turn, seal_end}
 use Rattle.writer.proofs.seal_blocks.Goals as goal
 

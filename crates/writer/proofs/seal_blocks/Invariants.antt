@@ -1,10 +1,7 @@
 use Prim.Native.Nat.{◌-◌, ◌≤◌}
-use mathlib.Core.Path.{◌≡◌, sym, ◌∙◌}
-use native.Mathlib.Omega.{arith}
+use mathlib.Core.Path.{◌≡◌}
 use lib.ListN.{length}
-use borrow.Author.Rules.{rules}
 use Rattle.writer.specs.Steps.{sealed_from}
-use Rattle.writer.proofs.Steps.{seal_turn, seal_end}
 use Rattle.writer.proofs.seal_blocks.Given as goal
 
 abbrev pub invariant-loop-b : goal.invariant-loop-b

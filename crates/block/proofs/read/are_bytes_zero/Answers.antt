@@ -1,5 +1,4 @@
-use Rattle.std.proofs.Common.{◌≡◌, ◌-◌, ◌≤◌, true, length, sym, arith, rules}
-use Rattle.block.specs.Code.Zeros.{zero_in}
+use Rattle.std.proofs.Common.{◌≡◌, ◌-◌, length, sym, arith, rules}
 use Rattle.block.proofs.Zeros.{zero_none, zero_next, part_not, byte_zero, byte_not}
 use Rattle.block.proofs.read.are_bytes_zero.Goals as goal
 

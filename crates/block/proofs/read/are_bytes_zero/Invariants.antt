@@ -1,6 +1,5 @@
-use Rattle.std.proofs.Common.{◌≡◌, ◌-◌, ◌≤◌, true, length, sym, arith, rules}
+use Rattle.std.proofs.Common.{◌≡◌, ◌-◌, ◌≤◌, true, length}
 use Rattle.block.specs.Code.Zeros.{zero_in}
-use Rattle.block.proofs.Zeros.{zero_none, zero_next, part_not, byte_zero, byte_not}
 use Rattle.block.proofs.read.are_bytes_zero.Given as goal
 
 abbrev pub invariant-loop-i : goal.invariant-loop-i

@@ -1,7 +1,5 @@
-use Rattle.std.proofs.Common.{◌≡◌, ◌-◌, ◌*◌, ◌≤◌, true, sym, ◌∙◌, arith, rules}
-use borrow.Author.Tests.{not-true, not-false}
+use Rattle.std.proofs.Common.{◌≡◌, ◌-◌, ◌*◌, ◌≤◌, true}
 use Rattle.block.specs.Code.Zeros.{zero_in}
-use Rattle.block.proofs.Zeros.{zero_none, zero_next, part_not}
 use Rattle.block.proofs.read.are_chunks_zero.Given as goal
 
 abbrev pub invariant-loop-i : goal.invariant-loop-i

@@ -1,5 +1,4 @@
-use Rattle.std.proofs.Common.{◌-◌, ◌*◌, ◌/◌, length, sym, ◌∙◌, arith, rules}
-use borrow.Author.Tests.{not-true, not-false}
+use Rattle.std.proofs.Common.{◌*◌, ◌/◌, length, sym, ◌∙◌, arith}
 use Rattle.block.proofs.Zeros.{zero_rest, part_lost}
 use Rattle.block.proofs.read.are_few_zero.Goals as goal
 

@@ -1,5 +1,4 @@
-use Rattle.std.proofs.Common.{◌≡◌, ◌-◌, ◌*◌, ◌≤◌, true, sym, arith, rules}
-use Rattle.block.specs.Code.Zeros.{zero_in}
+use Rattle.std.proofs.Common.{◌≡◌, ◌*◌, sym, arith, rules}
 use Rattle.block.proofs.Zeros.{zero_none, zero_next, part_not, long_zero, long_not}
 use Rattle.block.proofs.read.are_longs_zero.Goals as goal
 

@@ -1,4 +1,4 @@
-use Rattle.std.proofs.Common.{sym, arith, rules}
+use Rattle.std.proofs.Common.{sym, arith}
 use Rattle.block.proofs.Numbers.{number_past}
 use Rattle.block.proofs.read.cut_longs.Goals as goal
 

@@ -1,4 +1,4 @@
-use Rattle.std.proofs.Common.{◌≡◌, ◌+◌, ◌-◌, ◌^◌, ◌<◌, ◌≤◌, sym, arith, rules}
+use Rattle.std.proofs.Common.{◌≡◌, ◌+◌, ◌-◌, sym, arith, rules}
 use native.Mathlib.Nat.{sub_self}
 use Rattle.block.specs.Bytes.{number_at}
 use Rattle.block.proofs.Numbers.{number_past, number_turn, power_pos, power_turn, power_room}

@@ -1,7 +1,5 @@
-use Rattle.std.proofs.Common.{◌≡◌, ◌+◌, ◌-◌, ◌^◌, ◌<◌, ◌≤◌, sym, arith, rules}
-use native.Mathlib.Nat.{sub_self}
+use Rattle.std.proofs.Common.{◌≡◌, ◌+◌, ◌-◌, ◌^◌, ◌<◌, ◌≤◌}
 use Rattle.block.specs.Bytes.{number_at}
-use Rattle.block.proofs.Numbers.{number_past, number_turn, power_pos, power_turn, power_room}
 use Rattle.block.proofs.read.cut_number.Given as goal
 
 abbrev pub invariant-loop-i : goal.invariant-loop-i

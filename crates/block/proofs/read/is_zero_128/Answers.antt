@@ -1,5 +1,4 @@
 use Rattle.block.proofs.Zeros.{zero_split}
-use Rattle.std.proofs.Common.{rules}
 use Rattle.block.proofs.read.is_zero_128.Goals as goal
 
 pub returns : goal.returns

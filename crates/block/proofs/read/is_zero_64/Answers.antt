@@ -1,5 +1,4 @@
 use Rattle.block.proofs.Zeros.{eight_longs}
-use Rattle.std.proofs.Common.{rules}
 use Rattle.block.proofs.read.is_zero_64.Goals as goal
 
 pub returns : goal.returns

@@ -1,4 +1,4 @@
-use Rattle.std.proofs.Common.{arith, rules}
+use Rattle.std.proofs.Common.{arith}
 use Rattle.block.proofs.Numbers.{number_split}
 use Rattle.block.proofs.read.word_in.Goals as goal
 

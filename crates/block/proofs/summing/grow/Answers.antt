@@ -1,4 +1,3 @@
-use Rattle.std.proofs.Common.{rules}
 use Rattle.block.specs.Sums.{grown}
 use Rattle.block.proofs.summing.grow.Goals as goal
 

@@ -1,4 +1,4 @@
-use Rattle.std.proofs.Common.{rules, eq-eqb, ne_eqb}
+use Rattle.std.proofs.Common.{eq-eqb, ne_eqb}
 use Rattle.block.specs.Sums.{sealed}
 use Rattle.block.proofs.summing.seal.Goals as goal
 

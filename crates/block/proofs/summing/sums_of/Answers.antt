@@ -1,6 +1,5 @@
-use Rattle.std.proofs.Common.{◌≡◌, ◌-◌, ◌*◌, ◌≤◌, refl, ◌∙◌, arith, rules}
+use Rattle.std.proofs.Common.{◌≡◌, refl, ◌∙◌, arith, rules}
 use Rattle.block.specs.Sums.{summed, sums_of}
-use Rattle.block.specs.Code.Turns.{no_sums}
 use Rattle.block.proofs.Turns.{turn_on}
 use Rattle.block.proofs.summing.sums_of.Goals as goal
 

@@ -1,7 +1,6 @@
-use Rattle.std.proofs.Common.{◌≡◌, ◌-◌, ◌*◌, ◌≤◌, refl, ◌∙◌, arith, rules}
-use Rattle.block.specs.Sums.{summed, sums_of}
+use Rattle.std.proofs.Common.{◌≡◌, ◌-◌, ◌*◌, ◌≤◌}
+use Rattle.block.specs.Sums.{summed}
 use Rattle.block.specs.Code.Turns.{no_sums}
-use Rattle.block.proofs.Turns.{turn_on}
 use Rattle.block.proofs.summing.sums_of.Given as goal
 
 abbrev pub invariant-loop-i : goal.invariant-loop-i

@@ -1,4 +1,4 @@
-use Rattle.std.proofs.Common.{rules, eq-eqb, ne_eqb}
+use Rattle.std.proofs.Common.{eq-eqb, ne_eqb}
 use Rattle.block.specs.Sums.{sums_right}
 use Rattle.block.proofs.summing.sums_right.Goals as goal
 

@@ -1,5 +1,4 @@
 use Rattle.block.proofs.Turns.{six_times}
-use Rattle.std.proofs.Common.{rules}
 use Rattle.block.proofs.summing.times_words.Goals as goal
 
 pub returns : goal.returns

@@ -1,5 +1,4 @@
 use Rattle.block.proofs.Turns.{turn_is}
-use Rattle.std.proofs.Common.{rules}
 use Rattle.block.proofs.summing.turn.Goals as goal
 
 pub returns : goal.returns

@@ -1,4 +1,4 @@
-use Rattle.std.proofs.Common.{◌≡◌, ◌+◌, ◌-◌, ◌*◌, ◌≤◌, sym, refl, ◌∙◌, arith, rules}
+use Rattle.std.proofs.Common.{◌≡◌, ◌+◌, ◌*◌, sym, refl, ◌∙◌, arith, rules}
 use Rattle.block.specs.Sums.{summed}
 use Rattle.block.specs.Code.Turns.{no_sums}
 use Rattle.block.proofs.Turns.{summed_next}

@@ -1,7 +1,6 @@
-use Rattle.std.proofs.Common.{◌≡◌, ◌+◌, ◌-◌, ◌*◌, ◌≤◌, sym, refl, ◌∙◌, arith, rules}
+use Rattle.std.proofs.Common.{◌≡◌, ◌-◌, ◌≤◌}
 use Rattle.block.specs.Sums.{summed}
 use Rattle.block.specs.Code.Turns.{no_sums}
-use Rattle.block.proofs.Turns.{summed_next}
 use Rattle.block.proofs.summing.turn_sums.Given as goal
 
 abbrev pub invariant-loop-k : goal.invariant-loop-k

@@ -1,5 +1,4 @@
-use Rattle.std.proofs.Common.{◌≡◌, ◌-◌, ◌≤◌, arith, rules}
-use Rattle.block.specs.Code.Turns.{TurnsTo}
+use Rattle.std.proofs.Common.{◌≡◌, arith, rules}
 use Rattle.block.proofs.Turns.{turns_none, turns_more}
 use Rattle.block.proofs.summing.turns_of.Goals as goal
 

@@ -1,6 +1,5 @@
-use Rattle.std.proofs.Common.{◌≡◌, ◌-◌, ◌≤◌, arith, rules}
+use Rattle.std.proofs.Common.{◌-◌, ◌≤◌}
 use Rattle.block.specs.Code.Turns.{TurnsTo}
-use Rattle.block.proofs.Turns.{turns_none, turns_more}
 use Rattle.block.proofs.summing.turns_of.Given as goal
 
 abbrev pub invariant-loop-i : goal.invariant-loop-i

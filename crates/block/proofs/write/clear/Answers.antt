@@ -1,4 +1,4 @@
-use Rattle.std.proofs.Common.{◌≡◌, ◌-◌, ◌<◌, ◌≤◌, ◌++◌, length, drop, replicate, append-nil, arith, rules}
+use Rattle.std.proofs.Common.{◌≡◌, ◌<◌, length, append-nil, arith, rules}
 use lib.Seq.{drop-length}
 use borrow.Author.Fill.{fill_more}
 use Rattle.block.proofs.write.clear.Goals as goal

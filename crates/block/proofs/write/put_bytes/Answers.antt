@@ -1,5 +1,5 @@
-use Rattle.std.proofs.Common.{◌≡◌, ◌+◌, ◌-◌, ◌<◌, ◌≤◌, length, sym, add-one, arith, rules}
-use lib.Seq.{paste, paste-zero, paste-suc, take-length}
+use Rattle.std.proofs.Common.{◌≡◌, ◌+◌, ◌<◌, length, sym, add-one, arith, rules}
+use lib.Seq.{paste-zero, paste-suc, take-length}
 use Rattle.block.proofs.Put.{put_in, put_out}
 use Rattle.block.proofs.write.put_bytes.Goals as goal
 

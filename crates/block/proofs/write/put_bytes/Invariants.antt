@@ -1,6 +1,5 @@
-use Rattle.std.proofs.Common.{◌≡◌, ◌+◌, ◌-◌, ◌<◌, ◌≤◌, length, sym, add-one, arith, rules}
-use lib.Seq.{paste, paste-zero, paste-suc, take-length}
-use Rattle.block.proofs.Put.{put_in, put_out}
+use Rattle.std.proofs.Common.{◌≡◌, ◌+◌, ◌-◌, ◌≤◌, length}
+use lib.Seq.{paste}
 use Rattle.block.proofs.write.put_bytes.Given as goal
 
 abbrev pub invariant-loop-i : goal.invariant-loop-i

@@ -1,4 +1,3 @@
-use Rattle.std.proofs.Common.{rules}
 use Rattle.block.specs.Bytes.{bytes_of}
 use Rattle.block.proofs.write.put_half.Goals as goal
 

@@ -1,9 +1,6 @@
 use Prim.Native.Nat.{◌+◌, ◌-◌, ◌≤◌}
-use mathlib.Core.Path.{◌≡◌, ◌∙◌}
-use native.Mathlib.Omega.{arith}
-use borrow.Author.Rules.{rules}
+use mathlib.Core.Path.{◌≡◌}
 use Rattle.day.specs.Calendar.{year_start}
-use Rattle.day.proofs.Laws.{start_zero, start_more, start_last, inside_date, inside_number}
 use Rattle.day.proofs.calendar.date_of.Given as goal
 
 abbrev pub invariant-loop-k : goal.invariant-loop-k

@@ -1,8 +1,7 @@
-use Prim.Native.Nat.{◌-◌, ◌≤◌}
 use mathlib.Core.Path.{◌≡◌}
 use native.Mathlib.Omega.{arith}
 use borrow.Author.Rules.{rules}
-use Rattle.day.specs.Calendar.{is_leap, before}
+use Rattle.day.specs.Calendar.{is_leap}
 use Rattle.day.proofs.Months.{before_zero, before_most}
 use Rattle.day.proofs.Laws.{inside}
 use Rattle.day.proofs.calendar.in_year.Goals as goal

@@ -1,10 +1,5 @@
 use Prim.Native.Nat.{◌-◌, ◌≤◌}
-use mathlib.Core.Path.{◌≡◌}
-use native.Mathlib.Omega.{arith}
-use borrow.Author.Rules.{rules}
-use Rattle.day.specs.Calendar.{is_leap, before}
-use Rattle.day.proofs.Months.{before_zero, before_most}
-use Rattle.day.proofs.Laws.{inside}
+use Rattle.day.specs.Calendar.{before}
 use Rattle.day.proofs.calendar.in_year.Given as goal
 
 abbrev pub invariant-loop-m : goal.invariant-loop-m

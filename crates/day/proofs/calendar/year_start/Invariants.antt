@@ -1,9 +1,6 @@
 use Prim.Native.Nat.{◌-◌, ◌*◌, ◌≤◌}
-use mathlib.Core.Path.{◌≡◌, sym}
-use borrow.Author.Rules.{rules}
-use Rattle.below.proofs.Tests.{at_end}
+use mathlib.Core.Path.{◌≡◌}
 use Rattle.day.specs.Calendar.{year_start}
-use Rattle.day.proofs.Laws.{start_zero, start_more}
 use Rattle.day.proofs.calendar.year_start.Given as goal
 
 abbrev pub invariant-loop-i : goal.invariant-loop-i

@@ -1,6 +1,5 @@
 use mathlib.Core.Path.{sym, ◌∙◌}
 use native.Mathlib.Omega.{arith}
-use borrow.Author.Rules.{rules}
 use Rattle.day.proofs.Months.{table_right, table_end, before_stays, before_most}
 use Rattle.day.proofs.table.days_before.Goals as goal
 

@@ -1,10 +1,7 @@
-use Prim.Native.Nat.{◌≤◌, ◌-◌}
 use mathlib.Core.Path.{sym, ◌∙◌}
 use native.Mathlib.Omega.{arith}
 use lib.Seq.{take_all, length-take-le}
-use Rattle.below.proofs.Search.{NoneBelow, none_zero, none_more, any_hit, any_end}
-use Rattle.plan.specs.Fields.{record_at}
-use Rattle.form.specs.Form.{record_out}
+use Rattle.below.proofs.Search.{none_zero, none_more, any_hit, any_end}
 use borrow.Author.Rules.{rules}
 use Rattle.form.proofs.block_form.any_dose_out.Goals as goal
 

@@ -2,7 +2,6 @@ use mathlib.Core.Bool.{true, false}
 use mathlib.Core.Path.{◌≡◌, sym, ◌∙◌}
 use borrow.Author.Tests.{eq-eqb, ne_eqb}
 use Rattle.form.specs.Form.{not_zero}
-use borrow.Author.Rules.{rules}
 use Rattle.form.proofs.block_form.continuation_out.Goals as goal
 
 pub returns-then-count_of-eq0 : goal.returns-then-count_of-eq0

@@ -1,6 +1,5 @@
 use Rattle.plan.proofs.DoseRecord.{length_record}
 use native.Mathlib.Omega.{arith}
-use borrow.Author.Rules.{rules}
 use Rattle.form.proofs.block_form.dose_out.Goals as goal
 
 pub record_out-requires : goal.record_out-requires

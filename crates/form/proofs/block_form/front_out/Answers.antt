@@ -1,6 +1,5 @@
 use borrow.Author.Tests.{eq-eqb, ne_eqb}
 use Rattle.form.specs.Code.Front.{front_out}
-use borrow.Author.Rules.{rules}
 use Rattle.form.proofs.block_form.front_out.Goals as goal
 
 pub returns-then-kind-eq1 : goal.returns-then-kind-eq1

@@ -1,7 +1,6 @@
 use mathlib.Core.Bool.{true, false}
 use mathlib.Core.Path.{◌≡◌, sym, ◌∙◌}
 use Rattle.form.specs.Form.{days_out}
-use borrow.Author.Rules.{rules}
 use Rattle.form.proofs.block_form.head_out.Goals as goal
 
 pub returns-then-days_out : goal.returns-then-days_out

@@ -1,4 +1,3 @@
-use borrow.Author.Rules.{rules}
 use Rattle.form.proofs.block_form.not_zero.Goals as goal
 
 pub returns : goal.returns

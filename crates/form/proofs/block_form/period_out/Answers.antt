@@ -2,7 +2,6 @@ use mathlib.Core.Bool.{true, false}
 use mathlib.Core.Path.{◌≡◌, sym, ◌∙◌}
 use borrow.Author.Tests.{eq-eqb, ne_eqb}
 use Rattle.form.specs.Form.{days_out}
-use borrow.Author.Rules.{rules}
 use Rattle.form.proofs.block_form.period_out.Goals as goal
 
 pub returns-then-days_out : goal.returns-then-days_out

@@ -3,7 +3,6 @@ use borrow.Author.Tests.{lt-ltb, le-ltb}
 use Rattle.below.proofs.Tests.{or_true, or_false}
 use Rattle.plan.specs.Fields.{dose_of}
 use Rattle.form.proofs.Zeroed.{record_is}
-use borrow.Author.Rules.{rules}
 use Rattle.form.proofs.block_form.record_out.Goals as goal
 
 pub returns-then-larger-gt9999999999 : goal.returns-then-larger-gt9999999999

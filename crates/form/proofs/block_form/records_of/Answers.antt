@@ -1,6 +1,5 @@
 use borrow.Author.Tests.{eq-eqb, ne_eqb}
 use Rattle.form.specs.Code.Front.{records_of}
-use borrow.Author.Rules.{rules}
 use Rattle.form.proofs.block_form.records_of.Goals as goal
 
 pub returns-then-kind_of-eq1 : goal.returns-then-kind_of-eq1

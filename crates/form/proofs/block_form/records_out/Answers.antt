@@ -3,7 +3,6 @@ use native.Mathlib.Omega.{arith}
 use borrow.Author.Tests.{lt-ltb, le-ltb}
 use Rattle.plan.specs.Fields.{count_of}
 use Rattle.form.specs.Code.Front.{records_out}
-use borrow.Author.Rules.{rules}
 use Rattle.form.proofs.block_form.records_out.Goals as goal
 
 pub returns-then-n-gt20 : goal.returns-then-n-gt20

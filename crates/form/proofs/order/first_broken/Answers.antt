@@ -1,9 +1,6 @@
-use Prim.Native.Nat.{◌≤◌, ◌-◌}
-use mathlib.Core.Path.{◌≡◌, sym, ◌∙◌}
+use mathlib.Core.Path.{sym, ◌∙◌}
 use native.Mathlib.Omega.{arith}
-use Rattle.below.proofs.Search.{NoneBelow, none_zero, none_more, first_is, first_end}
-use Rattle.plan.specs.Periods.{blocks_of}
-use Rattle.form.specs.Code.Front.{broken_at}
+use Rattle.below.proofs.Search.{none_zero, none_more, first_is, first_end}
 use borrow.Author.Rules.{rules}
 use Rattle.form.proofs.order.first_broken.Goals as goal
 

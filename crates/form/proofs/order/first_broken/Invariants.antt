@@ -1,10 +1,8 @@
 use Prim.Native.Nat.{◌≤◌, ◌-◌}
-use mathlib.Core.Path.{◌≡◌, sym, ◌∙◌}
-use native.Mathlib.Omega.{arith}
-use Rattle.below.proofs.Search.{NoneBelow, none_zero, none_more, first_is, first_end}
+use mathlib.Core.Path.{◌≡◌}
+use Rattle.below.proofs.Search.{NoneBelow}
 use Rattle.plan.specs.Periods.{blocks_of}
 use Rattle.form.specs.Code.Front.{broken_at}
-use borrow.Author.Rules.{rules}
 use Rattle.form.proofs.order.first_broken.Given as goal
 
 abbrev pub invariant-loop-b : goal.invariant-loop-b

@@ -1,7 +1,6 @@
 use borrow.Author.Tests.{ne_eqb}
 use native.Mathlib.Omega.{arith}
 use Rattle.form.specs.Form.{form_breaks}
-use borrow.Author.Rules.{rules}
 use Rattle.form.proofs.order.form_breaks.Goals as goal
 
 pub returns-in-2 : goal.returns-in-2

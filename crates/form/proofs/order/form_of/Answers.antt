@@ -1,14 +1,12 @@
-use Prim.Native.Nat.{◌<◌, ◌≤◌, ◌-◌}
+use Prim.Native.Nat.{◌<◌}
 use mathlib.Core.Path.{ap, ◌≡◌, sym, ◌∙◌}
 use native.Mathlib.Omega.{arith}
-use Rattle.below.specs.Below.{first_below}
 use Rattle.below.proofs.Search.{none_more, first_facts}
 use Rattle.plan.specs.Periods.{blocks_of}
 use Rattle.refusal.proofs.Order.{Passed, block_none}
 use Rattle.refusal.specs.Order.{lowest_block}
 use Rattle.form.specs.Form.{form_breaks, form_of}
 use Rattle.form.specs.Code.Front.{broken_at}
-use Rattle.form.specs.Code.Whole.{Whole}
 use Rattle.form.specs.declared.Form.TheVariants.{Broken}
 use Rattle.form.proofs.Formed.{none_broken, lowest_broken}
 use Rattle.form.proofs.Laws.{whole, none_ahead, broken_is, right_by}

@@ -3,7 +3,6 @@ use mathlib.Core.Path.{◌≡◌, sym, ap, ◌∙◌}
 use lib.ListN.{length}
 use Rattle.form.specs.Form.{misplaced}
 use Rattle.form.proofs.Laws.{length_block}
-use borrow.Author.Rules.{rules}
 use Rattle.form.proofs.order.is_broken.Goals as goal
 
 pub returns-then-is_misplaced : goal.returns-then-is_misplaced

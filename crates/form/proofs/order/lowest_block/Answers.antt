@@ -1,11 +1,8 @@
-use Prim.Native.Nat.{◌≤◌, ◌-◌}
-use mathlib.Core.Path.{◌≡◌, sym, ◌∙◌}
+use mathlib.Core.Path.{sym, ◌∙◌}
 use native.Mathlib.Omega.{arith}
 use borrow.Author.Rules.{rules}
-use Rattle.below.proofs.Search.{NoneBelow, none_zero, none_more, first_is, first_end}
-use Rattle.plan.specs.Periods.{blocks_of}
+use Rattle.below.proofs.Search.{none_zero, none_more, first_is, first_end}
 use Rattle.refusal.specs.Order.{lowest_block}
-use Rattle.form.specs.Form.{form_breaks}
 use Rattle.form.proofs.order.lowest_block.Goals as goal
 
 pub loop-b-init : goal.loop-b-init

@@ -1,4 +1,3 @@
-use borrow.Author.Rules.{rules}
 use Rattle.form.proofs.order.no_head.Goals as goal
 
 pub returns : goal.returns

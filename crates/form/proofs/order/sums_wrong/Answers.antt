@@ -1,4 +1,3 @@
-use borrow.Author.Rules.{rules}
 use Rattle.form.proofs.order.sums_wrong.Goals as goal
 
 pub returns : goal.returns

@@ -1,4 +1,4 @@
-use Rattle.std.proofs.Common.{rules, eq-eqb, ne_eqb}
+use Rattle.std.proofs.Common.{eq-eqb, ne_eqb}
 use Rattle.need.proofs.bits.bits_by.Goals as goal
 
 pub returns-then-choice : goal.returns-then-choice

@@ -1,7 +1,5 @@
-use Rattle.std.proofs.Common.{◌≡◌, ℕ, ◌-◌, ◌<◌, ◌≤◌, min, Bool, List, get_or, arith, rules}
+use Rattle.std.proofs.Common.{◌≡◌, min, arith, rules}
 use Rattle.plan.specs.Periods.{blocks_of}
-use Rattle.need.specs.Need.{choice_of}
-use Rattle.need.specs.Telling.{bits_from}
 use Rattle.need.proofs.Telling.{counts, down_none, down_fits, down_more, down_all}
 use Rattle.need.proofs.bits.told_by.Goals as goal
 

@@ -1,8 +1,6 @@
-use Rattle.std.proofs.Common.{◌≡◌, ℕ, ◌-◌, ◌<◌, ◌≤◌, min, Bool, List, get_or, arith, rules}
+use Rattle.std.proofs.Common.{◌≡◌, ◌≤◌, min}
 use Rattle.plan.specs.Periods.{blocks_of}
-use Rattle.need.specs.Need.{choice_of}
-use Rattle.need.specs.Telling.{bits_from}
-use Rattle.need.proofs.Telling.{behind, down_none, down_fits, down_more, down_all}
+use Rattle.need.proofs.Telling.{behind}
 use Rattle.need.proofs.bits.told_by.Given as goal
 
 abbrev pub invariant-loop-b : goal.invariant-loop-b

@@ -1,4 +1,4 @@
-use Rattle.std.proofs.Common.{sym, ◌∙◌, rules, eq-eqb, ne_eqb}
+use Rattle.std.proofs.Common.{sym, ◌∙◌, eq-eqb, ne_eqb}
 use Rattle.need.proofs.Rows.{low_by, upper_by}
 use Rattle.need.proofs.choice.amount.Goals as goal
 

@@ -1,4 +1,4 @@
-use Rattle.std.proofs.Common.{not, sym, ap, ◌∙◌, rules, eq-eqb, ne_eqb}
+use Rattle.std.proofs.Common.{not, sym, ap, ◌∙◌, eq-eqb, ne_eqb}
 use Rattle.need.proofs.Rows.{counts_fixed, counts_four, counts_other}
 use Rattle.need.proofs.choice.is_counting.Goals as goal
 

@@ -1,11 +1,10 @@
-use Rattle.std.proofs.Common.{◌≡◌, ◌-◌, ◌≤◌, min, true, false, cond, [], ⊎_elim, arith, rules}
+use Rattle.std.proofs.Common.{◌≡◌, min, true, false, cond, [], arith, rules}
 use Rattle.below.proofs.Lists.{sum_join}
-use Rattle.below.specs.Lists.{sum_over}
 use Rattle.doses.specs.Doses.{covers, doses_of_period, doses_on}
 use Rattle.plan.specs.Periods.{blocks_of}
 use Rattle.need.specs.Need.{chosen}
 use Rattle.need.proofs.Chosen.{due_chosen}
-use Rattle.need.proofs.Wrapped.{Sums, sums_begin, sums_hit, sums_miss, sums_picked}
+use Rattle.need.proofs.Wrapped.{sums_begin, sums_hit, sums_miss, sums_picked}
 use Rattle.need.proofs.due.due_on.Goals as goal
 use Rattle.need.proofs.due.due_on.Goals.{then-is_covering, else-is_covering}
 
@@ -19,8 +18,8 @@ loop-b-preserved c =
       search rules,
       search rules,
       elim c.if-is_covering.branch [
-          then-is_covering w ↦ let h : covers a.plan.now a.day l.b ≡ true = cc in sums_hit _ _ _ l.invariant.2 h (cc)
-          | else-is_covering w ↦ let h : covers a.plan.now a.day l.b ≡ false = cc in sums_miss _ _ _ l.invariant.2 h (cc)
+        | then-is_covering w ↦ let h : covers a.plan.now a.day l.b ≡ true = cc in sums_hit _ _ _ l.invariant.2 h (cc)
+        | else-is_covering w ↦ let h : covers a.plan.now a.day l.b ≡ false = cc in sums_miss _ _ _ l.invariant.2 h (cc)
       ],
     )
 

@@ -1,11 +1,9 @@
-use Rattle.std.proofs.Common.{◌≡◌, ◌-◌, ◌≤◌, min, true, false, cond, [], ⊎_elim, arith, rules}
-use Rattle.below.proofs.Lists.{sum_join}
+use Rattle.std.proofs.Common.{◌≡◌, ◌-◌, ◌≤◌, min}
 use Rattle.below.specs.Lists.{sum_over}
-use Rattle.doses.specs.Doses.{covers, doses_of_period, doses_on}
+use Rattle.doses.specs.Doses.{covers, doses_of_period}
 use Rattle.plan.specs.Periods.{blocks_of}
 use Rattle.need.specs.Need.{chosen}
-use Rattle.need.proofs.Chosen.{due_chosen}
-use Rattle.need.proofs.Wrapped.{Sums, sums_begin, sums_hit, sums_miss, sums_picked}
+use Rattle.need.proofs.Wrapped.{Sums}
 use Rattle.need.proofs.due.due_on.Given as goal
 
 abbrev pub invariant-loop-b : goal.invariant-loop-b

@@ -1,10 +1,10 @@
-use Rattle.std.proofs.Common.{◌≡◌, ◌-◌, ◌≤◌, true, false, ⊎_elim, arith, rules}
+use Rattle.std.proofs.Common.{◌≡◌, true, false, arith, rules}
 use Rattle.below.proofs.Lists.{sum_pick}
 use Rattle.doses.specs.Doses.{position_of, applies, doses_of_period}
 use Rattle.plan.specs.Fields.{header_of}
 use Rattle.plan.specs.Periods.{block_at, doses_of, dose_in}
 use Rattle.need.specs.Need.{chosen}
-use Rattle.need.proofs.Wrapped.{Sums, sums_begin, sums_hit, sums_miss}
+use Rattle.need.proofs.Wrapped.{sums_begin, sums_hit, sums_miss}
 use Rattle.need.proofs.due.with_period.Goals as goal
 use Rattle.need.proofs.due.with_period.Goals.{then-is_applied, else-is_applied}
 
@@ -19,8 +19,8 @@ loop-j-preserved c =
       search rules,
       search rules,
       elim c.if-is_applied.branch [
-          then-is_applied w ↦ let h : applies x (dose_in a.plan.now a.b l.j) ≡ true = cc in sums_hit _ _ _ l.invariant.2 h (cc)
-          | else-is_applied w ↦ let h : applies x (dose_in a.plan.now a.b l.j) ≡ false = cc in sums_miss _ _ _ l.invariant.2 h (cc)
+        | then-is_applied w ↦ let h : applies x (dose_in a.plan.now a.b l.j) ≡ true = cc in sums_hit _ _ _ l.invariant.2 h (cc)
+        | else-is_applied w ↦ let h : applies x (dose_in a.plan.now a.b l.j) ≡ false = cc in sums_miss _ _ _ l.invariant.2 h (cc)
       ],
     )
 

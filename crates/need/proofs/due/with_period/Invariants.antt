@@ -1,10 +1,8 @@
-use Rattle.std.proofs.Common.{◌≡◌, ◌-◌, ◌≤◌, true, false, ⊎_elim, arith, rules}
-use Rattle.below.proofs.Lists.{sum_pick}
-use Rattle.doses.specs.Doses.{position_of, applies, doses_of_period}
-use Rattle.plan.specs.Fields.{header_of}
-use Rattle.plan.specs.Periods.{block_at, doses_of, dose_in}
+use Rattle.std.proofs.Common.{◌≡◌, ◌-◌, ◌≤◌}
+use Rattle.doses.specs.Doses.{applies}
+use Rattle.plan.specs.Periods.{doses_of, dose_in}
 use Rattle.need.specs.Need.{chosen}
-use Rattle.need.proofs.Wrapped.{Sums, sums_begin, sums_hit, sums_miss}
+use Rattle.need.proofs.Wrapped.{Sums}
 use Rattle.need.proofs.due.with_period.Given as goal
 
 abbrev pub invariant-loop-j : goal.invariant-loop-j

@@ -1,4 +1,4 @@
-use Rattle.std.proofs.Common.{sym, ◌∙◌, rules}
+use Rattle.std.proofs.Common.{sym, ◌∙◌}
 use Rattle.need.proofs.stopping.is_told.Goals as goal
 
 pub returns-then-is_period : goal.returns-then-is_period

@@ -1,11 +1,9 @@
-use Rattle.std.proofs.Common.{◌≡◌, ◌+◌, ◌-◌, ◌^◌, ◌<◌, ◌≤◌, min, true, false, sym, ◌∙◌, arith, rules}
-use borrow.Author.Tests.{not-true, not-false}
+use Rattle.std.proofs.Common.{◌≡◌, ◌+◌, ◌-◌, ◌^◌, ◌<◌, true, false, sym, ◌∙◌, arith, rules}
 use Rattle.below.proofs.Tests.{and_false}
-use Rattle.plan.specs.Fields.{last_of}
-use Rattle.plan.specs.Periods.{blocks_of, block_at}
+use Rattle.plan.specs.Periods.{blocks_of}
 use Rattle.need.specs.Telling.{is_told}
-use Rattle.need.proofs.Found.{Found, found_none, found_hit, found_miss, found_all}
-use Rattle.need.proofs.Telling.{Behind, behind_none, behind_half, behind_first, set_past}
+use Rattle.need.proofs.Found.{found_none, found_hit, found_miss, found_all}
+use Rattle.need.proofs.Telling.{behind_none, behind_half, behind_first, set_past}
 use Rattle.need.proofs.stopping.stop_of.Goals as goal
 
 pub loop-b-init : goal.loop-b-init

@@ -1,11 +1,9 @@
-use Rattle.std.proofs.Common.{◌≡◌, ◌+◌, ◌-◌, ◌^◌, ◌<◌, ◌≤◌, min, true, false, sym, ◌∙◌, arith, rules}
-use borrow.Author.Tests.{not-true, not-false}
-use Rattle.below.proofs.Tests.{and_false}
+use Rattle.std.proofs.Common.{◌≡◌, ◌-◌, ◌≤◌, min}
 use Rattle.plan.specs.Fields.{last_of}
 use Rattle.plan.specs.Periods.{blocks_of, block_at}
 use Rattle.need.specs.Telling.{is_told}
-use Rattle.need.proofs.Found.{Found, found_none, found_hit, found_miss, found_all}
-use Rattle.need.proofs.Telling.{Behind, behind_none, behind_half, behind_first, set_past}
+use Rattle.need.proofs.Found.{Found}
+use Rattle.need.proofs.Telling.{Behind}
 use Rattle.need.proofs.stopping.stop_of.Given as goal
 
 abbrev pub invariant-loop-b : goal.invariant-loop-b

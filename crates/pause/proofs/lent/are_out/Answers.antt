@@ -1,4 +1,4 @@
-use Rattle.std.proofs.Common.{◌≡◌, ◌||◌, arith, refl, sym, ◌∙◌, ap, length, get_or, false, Bool}
+use Rattle.std.proofs.Common.{◌≡◌, ◌||◌, arith, refl, ◌∙◌, length, get_or}
 use lib.Dec.{ltb}
 use Rattle.below.specs.Below.{any_below}
 use Rattle.below.proofs.Search.{any_zero, any_more}

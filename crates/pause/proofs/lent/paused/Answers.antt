@@ -1,4 +1,4 @@
-use Rattle.std.proofs.Common.{◌≡◌, arith, sym, ◌∙◌, ap, length, get_or}
+use Rattle.std.proofs.Common.{◌≡◌, arith, sym, ◌∙◌, length, get_or}
 use Rattle.below.proofs.Search.{any_zero, any_more}
 use Rattle.pause.specs.Pauses.{no_day, holds, is_paused}
 use Rattle.pause.proofs.lent.paused.Goals as goal

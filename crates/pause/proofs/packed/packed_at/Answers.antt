@@ -1,5 +1,4 @@
 use mathlib.Core.Path.{sym}
-use borrow.Author.Rules.{rules}
 use Rattle.pause.proofs.Lists.{pauses_at, pauses_past}
 use Rattle.pause.proofs.packed.packed_at.Goals as goal
 

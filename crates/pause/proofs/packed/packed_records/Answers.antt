@@ -1,5 +1,4 @@
 use mathlib.Core.Path.{sym, ◌∙◌}
-use borrow.Author.Rules.{rules}
 use Rattle.pause.proofs.Lists.{no_day_first, lent_bad, lent_good}
 use Rattle.pause.proofs.packed.packed_records.Goals as goal
 

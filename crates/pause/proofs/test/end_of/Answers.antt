@@ -1,4 +1,3 @@
-use borrow.Author.Rules.{rules}
 use Rattle.pause.proofs.test.end_of.Goals as goal
 
 pub returns : goal.returns

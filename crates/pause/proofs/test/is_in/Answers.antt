@@ -4,7 +4,6 @@ use mathlib.Core.Logic.{⊎_elim}
 use mathlib.Core.Path.{◌≡◌, sym, ap, ◌∙◌}
 use native.Mathlib.Omega.{arith}
 use lib.Dec.{eqb, leb}
-use borrow.Author.Rules.{rules}
 use borrow.Author.Tests.{le-leb, leb-true, eqb-true}
 use Rattle.below.proofs.Tests.{bool_cases}
 use Rattle.day.specs.Days.{last_number, open_mark, closed_day}

@@ -1,4 +1,3 @@
-use borrow.Author.Rules.{rules}
 use Rattle.pause.proofs.test.or_held.Goals as goal
 
 pub returns : goal.returns

@@ -1,4 +1,3 @@
-use borrow.Author.Rules.{rules}
 use Rattle.pause.proofs.InSight.{steady_begun, steady_ahead}
 use Rattle.pause.proofs.test.steady_to.Goals as goal
 

@@ -1,4 +1,3 @@
-use borrow.Author.Rules.{rules}
 use Rattle.pause.proofs.test.with_pause_in_sight.Goals as goal
 
 pub returns : goal.returns

@@ -1,4 +1,3 @@
-use borrow.Author.Rules.{rules}
 use Rattle.period.proofs.finish.is_too_much.Goals as goal
 
 pub returns : goal.returns

@@ -1,6 +1,5 @@
 use native.Mathlib.Omega.{arith}
 use borrow.Author.Tests.{eq-eqb, ne_eqb}
-use borrow.Author.Rules.{rules}
 use Rattle.period.proofs.finish.round_of.Goals as goal
 
 pub returns-then-limit-ne0 : goal.returns-then-limit-ne0

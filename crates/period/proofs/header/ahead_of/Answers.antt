@@ -1,8 +1,6 @@
-use Prim.Native.Nat.{◌-◌, ◌≤◌}
 use mathlib.Core.Path.{sym, ◌∙◌}
 use borrow.Author.Rules.{rules}
-use Rattle.below.proofs.Search.{NoneBelow, none_zero, none_more, first_is, first_end}
-use Rattle.plan.specs.Periods.{is_period}
+use Rattle.below.proofs.Search.{none_zero, none_more, first_is, first_end}
 use Rattle.period.specs.Period.{ahead_of}
 use Rattle.period.proofs.header.ahead_of.Goals as goal
 

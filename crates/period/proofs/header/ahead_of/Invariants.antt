@@ -1,9 +1,6 @@
 use Prim.Native.Nat.{◌-◌, ◌≤◌}
-use mathlib.Core.Path.{sym, ◌∙◌}
-use borrow.Author.Rules.{rules}
-use Rattle.below.proofs.Search.{NoneBelow, none_zero, none_more, first_is, first_end}
+use Rattle.below.proofs.Search.{NoneBelow}
 use Rattle.plan.specs.Periods.{is_period}
-use Rattle.period.specs.Period.{ahead_of}
 use Rattle.period.proofs.header.ahead_of.Given as goal
 
 abbrev pub invariant-loop-i : goal.invariant-loop-i

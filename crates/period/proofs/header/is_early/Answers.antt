@@ -1,5 +1,4 @@
 use borrow.Author.Tests.{lt-ltb, le-ltb}
-use borrow.Author.Rules.{rules}
 use Rattle.period.proofs.header.is_early.Goals as goal
 
 pub returns-then-ahead-b : goal.returns-then-ahead-b

@@ -1,4 +1,3 @@
-use borrow.Author.Rules.{rules}
 use Rattle.period.proofs.header.is_outside.Goals as goal
 
 pub returns : goal.returns

@@ -3,7 +3,6 @@ use mathlib.Core.Path.{◌≡◌, sym, ◌∙◌}
 use native.Mathlib.Omega.{arith}
 use Rattle.day.specs.Days.{closed_day}
 use Rattle.period.proofs.Limit.{by_interval, unlimited, by_length, not_open}
-use borrow.Author.Rules.{rules}
 use Rattle.period.proofs.header.limit_of.Goals as goal
 
 pub returns-then-h-ne0 : goal.returns-then-h-ne0

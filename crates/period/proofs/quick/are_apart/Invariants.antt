@@ -1,10 +1,6 @@
 use Prim.Native.Nat.{ℕ, ◌+◌, ◌*◌, ◌-◌, ◌≤◌, ◌<◌}
-use mathlib.Core.Path.{◌≡◌, refl}
-use native.Mathlib.Omega.{arith}
-use borrow.Author.Count.{below_more}
-use Rattle.below.proofs.Tests.{true_not_false}
+use mathlib.Core.Path.{◌≡◌}
 use Rattle.plan.specs.Periods.{dose_in}
-use borrow.Author.Rules.{rules}
 use Rattle.period.proofs.quick.are_apart.Given as goal
 
 abbrev pub invariant-loop-q : goal.invariant-loop-q

@@ -3,7 +3,6 @@ use mathlib.Core.Path.{◌≡◌, refl, sym, ◌∙◌}
 use borrow.Author.Tests.{not-false}
 use Rattle.below.proofs.Tests.{true_not_false}
 use Rattle.period.proofs.QuickPass.{let_through}
-use borrow.Author.Rules.{rules}
 use Rattle.period.proofs.quick.glance.Goals as goal
 
 -- it was left, and nothing is said

@@ -1,4 +1,3 @@
-use borrow.Author.Rules.{rules}
 use Rattle.period.proofs.quick.may_any_day.Goals as goal
 
 pub returns : goal.returns

@@ -1,4 +1,4 @@
-use Prim.Native.Nat.{ℕ, ◌+◌, ◌*◌, ◌-◌, ◌≤◌}
+use Prim.Native.Nat.{ℕ, ◌+◌, ◌*◌}
 use mathlib.Core.List.{List}
 use mathlib.Core.Path.{◌≡◌, sym, ap, ◌∙◌}
 use native.Mathlib.Omega.{arith}
@@ -6,7 +6,6 @@ use Rattle.below.proofs.Tests.{true_not_false}
 use Rattle.plan.specs.Fields.{record_at, dose_of}
 use Rattle.plan.specs.Periods.{dose_in}
 use Rattle.plan.proofs.Marks.{at_place}
-use Rattle.period.specs.Code.Quick.{Quickly}
 use Rattle.period.proofs.QuickPass.{quick_more}
 use borrow.Author.Rules.{rules}
 use Rattle.period.proofs.quick.quick_block.Goals as goal

@@ -1,14 +1,6 @@
-use Prim.Native.Nat.{ℕ, ◌+◌, ◌*◌, ◌-◌, ◌≤◌}
-use mathlib.Core.List.{List}
-use mathlib.Core.Path.{◌≡◌, sym, ap, ◌∙◌}
-use native.Mathlib.Omega.{arith}
-use Rattle.below.proofs.Tests.{true_not_false}
-use Rattle.plan.specs.Fields.{record_at, dose_of}
+use Prim.Native.Nat.{◌+◌, ◌*◌, ◌-◌, ◌≤◌}
 use Rattle.plan.specs.Periods.{dose_in}
-use Rattle.plan.proofs.Marks.{at_place}
 use Rattle.period.specs.Code.Quick.{Quickly}
-use Rattle.period.proofs.QuickPass.{quick_more}
-use borrow.Author.Rules.{rules}
 use Rattle.period.proofs.quick.quick_block.Given as goal
 
 abbrev pub invariant-loop-i : goal.invariant-loop-i

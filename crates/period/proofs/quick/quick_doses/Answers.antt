@@ -1,11 +1,8 @@
-use Prim.Native.Nat.{◌+◌, ◌*◌, ◌-◌, ◌≤◌, min}
-use mathlib.Core.Bool.{true}
+use Prim.Native.Nat.{◌+◌, ◌*◌, min}
 use mathlib.Core.Path.{◌≡◌}
 use native.Mathlib.Omega.{arith}
 use borrow.Author.Tests.{not-true, not-false}
 use Rattle.below.proofs.Tests.{true_not_false}
-use Rattle.plan.specs.Periods.{dose_in}
-use Rattle.period.specs.Code.Quick.{Quickly}
 use Rattle.period.proofs.QuickPass.{begins}
 use borrow.Author.Rules.{rules}
 use Rattle.period.proofs.quick.quick_doses.Goals as goal

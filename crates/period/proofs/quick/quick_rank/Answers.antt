@@ -4,7 +4,6 @@ use native.Mathlib.Omega.{arith}
 use borrow.Author.Tests.{ne_eqb}
 use Rattle.period.specs.Code.Quick.{quick_key, quick_rank}
 use Rattle.period.proofs.Choice.{cond_le}
-use borrow.Author.Rules.{rules}
 use Rattle.period.proofs.quick.quick_rank.Goals as goal
 use Rattle.period.proofs.quick.quick_rank.Goals.{After-pick64}
 

@@ -4,7 +4,6 @@ use native.Mathlib.Omega.{arith}
 use lib.Dec.{eqb}
 use Rattle.period.specs.Code.Quick.{quick_turned}
 use Rattle.period.proofs.Choice.{cond_le}
-use borrow.Author.Rules.{rules}
 use Rattle.period.proofs.quick.quick_turn.Goals as goal
 use Rattle.period.proofs.quick.quick_turn.Goals.{After-struct_known-4-1}
 

@@ -1,4 +1,3 @@
-use borrow.Author.Rules.{rules}
 use Rattle.period.proofs.turn.last_of.Goals as goal
 
 pub returns : goal.returns

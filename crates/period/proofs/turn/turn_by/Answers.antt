@@ -1,5 +1,4 @@
 use native.Mathlib.Omega.{arith}
-use borrow.Author.Rules.{rules}
 use Rattle.period.specs.Code.Turn.{turned}
 use Rattle.period.proofs.turn.turn_by.Goals as goal
 

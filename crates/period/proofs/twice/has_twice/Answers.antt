@@ -1,11 +1,10 @@
-use Prim.Native.Nat.{◌-◌, ◌≤◌}
 use mathlib.Core.Bool.{true}
 use mathlib.Core.Path.{◌≡◌, sym, ◌∙◌}
 use lib.Dec.{eqb}
 use borrow.Author.Rules.{rules}
-use Rattle.below.proofs.Search.{NoneBelow, none_zero, none_more, any_hit, any_end}
+use Rattle.below.proofs.Search.{none_zero, none_more, any_hit, any_end}
 use Rattle.plan.specs.Periods.{dose_in}
-use Rattle.period.specs.Code.Twice.{twice_at, has_twice, slot_of, Seen}
+use Rattle.period.specs.Code.Twice.{has_twice, slot_of}
 use Rattle.period.proofs.Seen.{seen_none, seen_more, no_sign}
 use Rattle.period.proofs.twice.has_twice.Goals as goal
 

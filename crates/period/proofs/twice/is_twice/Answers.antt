@@ -1,4 +1,3 @@
-use borrow.Author.Rules.{rules}
 use Rattle.period.proofs.twice.is_twice.Goals as goal
 
 pub returns : goal.returns

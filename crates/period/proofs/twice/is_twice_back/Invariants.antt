@@ -1,10 +1,7 @@
 use Prim.Native.Nat.{◌-◌, ◌≤◌}
-use mathlib.Core.Path.{sym, ◌∙◌}
-use borrow.Author.Rules.{rules}
-use Rattle.below.proofs.Search.{NoneBelow, none_zero, none_more}
+use Rattle.below.proofs.Search.{NoneBelow}
 use Rattle.plan.specs.Periods.{dose_in}
 use Rattle.period.specs.Doses.{twice}
-use Rattle.period.proofs.Seen.{back_hit, back_end, back_stop}
 use Rattle.period.proofs.twice.is_twice_back.Given as goal
 
 abbrev pub invariant-loop-i : goal.invariant-loop-i

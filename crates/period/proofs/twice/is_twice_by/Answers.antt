@@ -1,5 +1,4 @@
 use mathlib.Core.Path.{sym}
-use borrow.Author.Rules.{rules}
 use Rattle.period.proofs.twice.is_twice_by.Goals as goal
 
 pub returns : goal.returns

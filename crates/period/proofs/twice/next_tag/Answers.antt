@@ -1,4 +1,3 @@
-use borrow.Author.Rules.{rules}
 use Rattle.below.proofs.Tests.{true_not_false}
 use Rattle.period.proofs.twice.next_tag.Goals as goal
 

@@ -1,5 +1,4 @@
 use mathlib.Core.Path.{◌≡◌}
-use borrow.Author.Rules.{rules}
 use Rattle.period.specs.Code.Twice.{slot_of}
 use Rattle.period.proofs.Seen.{slot_small}
 use Rattle.period.proofs.twice.slot_of.Goals as goal

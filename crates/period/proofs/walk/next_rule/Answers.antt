@@ -1,5 +1,4 @@
 use mathlib.Core.Path.{sym, ◌∙◌}
-use borrow.Author.Rules.{rules}
 use Rattle.period.specs.Code.Turn.{next_rule}
 use Rattle.period.proofs.walk.next_rule.Goals as goal
 

@@ -1,5 +1,4 @@
 use borrow.Author.Tests.{lt-ltb, le-ltb}
-use borrow.Author.Rules.{rules}
 use Rattle.period.specs.Code.Turn.{rule_with}
 use Rattle.period.proofs.walk.rule_with.Goals as goal
 

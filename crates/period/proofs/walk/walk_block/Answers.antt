@@ -1,9 +1,8 @@
-use Prim.Native.Nat.{◌+◌, ◌*◌, ◌-◌, ◌≤◌}
+use Prim.Native.Nat.{◌+◌, ◌*◌}
 use mathlib.Core.Path.{◌≡◌, sym, ◌∙◌}
 use native.Mathlib.Omega.{arith}
 use borrow.Author.Rules.{rules}
 use Rattle.plan.specs.Periods.{dose_in}
-use Rattle.period.specs.Code.Turn.{Passed}
 use Rattle.plan.proofs.Marks.{at_place}
 use Rattle.period.proofs.Steps.{one_more}
 use Rattle.period.proofs.walk.walk_block.Goals as goal

@@ -1,8 +1,8 @@
-use Prim.Native.Nat.{◌+◌, ◌*◌, ◌-◌, ◌≤◌, min}
+use Prim.Native.Nat.{◌+◌, ◌*◌, min}
 use mathlib.Core.Path.{◌≡◌}
 use native.Mathlib.Omega.{arith}
 use borrow.Author.Rules.{rules}
-use Rattle.period.specs.Code.Turn.{Passed, walked_to}
+use Rattle.period.specs.Code.Turn.{walked_to}
 use Rattle.period.proofs.walk.walk_doses.Goals as goal
 
 pub loop-q-init : goal.loop-q-init

@@ -1,8 +1,5 @@
-use Prim.Native.Nat.{◌+◌, ◌*◌, ◌-◌, ◌≤◌, min}
-use mathlib.Core.Path.{◌≡◌}
-use native.Mathlib.Omega.{arith}
-use borrow.Author.Rules.{rules}
-use Rattle.period.specs.Code.Turn.{Passed, walked_to}
+use Prim.Native.Nat.{◌*◌, ◌-◌, ◌≤◌, min}
+use Rattle.period.specs.Code.Turn.{Passed}
 use Rattle.period.proofs.walk.walk_doses.Given as goal
 
 abbrev pub invariant-loop-q : goal.invariant-loop-q

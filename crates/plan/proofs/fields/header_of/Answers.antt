@@ -1,7 +1,6 @@
 use mathlib.Core.Path.{sym}
 use native.Mathlib.Omega.{arith}
 use lib.Seq.{length-take-le}
-use borrow.Author.Rules.{rules}
 use Rattle.block.proofs.Numbers.{number_part}
 use Rattle.plan.proofs.fields.header_of.Goals as goal
 

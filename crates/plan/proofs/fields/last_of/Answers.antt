@@ -1,4 +1,3 @@
-use borrow.Author.Rules.{rules}
 use Rattle.plan.proofs.fields.last_of.Goals as goal
 
 pub returns : goal.returns

@@ -1,8 +1,7 @@
-use Prim.Native.Nat.{◌+◌, ◌-◌, ◌*◌, ◌/◌, ◌≤◌, ◌<◌, min}
+use Prim.Native.Nat.{◌+◌, ◌*◌, ◌<◌, min}
 use mathlib.Core.Bool.{not}
 use mathlib.Core.Path.{◌≡◌, sym, ap, ◌∙◌}
 use native.Mathlib.Omega.{arith}
-use Rattle.below.specs.Below.{any_below}
 use Rattle.plan.specs.Fields.{record_at, dose_of, is_marked}
 use Rattle.plan.specs.Periods.{block_at, doses_of, dose_in, has_unmarked, has_marked, class_of}
 use Rattle.plan.specs.declared.Dose.{Dose}

@@ -1,12 +1,9 @@
 use Prim.Native.Nat.{◌≤◌, ◌-◌}
 use mathlib.Core.Bool.{not}
-use mathlib.Core.Path.{◌≡◌, sym}
-use native.Mathlib.Omega.{arith}
-use borrow.Author.Rules.{rules}
-use Rattle.below.proofs.Search.{any_zero, any_more}
+use mathlib.Core.Path.{◌≡◌}
 use Rattle.below.specs.Below.{any_below}
 use Rattle.plan.specs.Fields.{is_marked}
-use Rattle.plan.specs.Periods.{doses_of, dose_in, has_unmarked, has_marked, class_of}
+use Rattle.plan.specs.Periods.{dose_in}
 use Rattle.plan.proofs.periods.class_by_doses.Given as goal
 
 abbrev pub invariant-loop-j : goal.invariant-loop-j

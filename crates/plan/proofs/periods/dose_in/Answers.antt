@@ -1,4 +1,3 @@
-use borrow.Author.Rules.{rules}
 use Rattle.plan.specs.Periods.{dose_in}
 use Rattle.plan.proofs.periods.dose_in.Goals as goal
 

@@ -1,4 +1,3 @@
-use borrow.Author.Rules.{rules}
 use Rattle.plan.proofs.periods.is_period.Goals as goal
 
 pub returns : goal.returns

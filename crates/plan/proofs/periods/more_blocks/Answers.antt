@@ -1,9 +1,7 @@
-use Prim.Native.Nat.{◌+◌, ◌≤◌, ◌-◌}
-use mathlib.Core.Bool.{not}
 use mathlib.Core.Path.{sym, ◌∙◌}
 use borrow.Author.Rules.{rules}
-use Rattle.below.proofs.Search.{NoneBelow, none_zero, none_more, first_is, first_end}
-use Rattle.plan.specs.Periods.{more_of, is_continuation}
+use Rattle.below.proofs.Search.{none_zero, none_more, first_is, first_end}
+use Rattle.plan.specs.Periods.{more_of}
 use Rattle.plan.proofs.periods.more_blocks.Goals as goal
 
 pub loop-i-init : goal.loop-i-init

@@ -1,9 +1,7 @@
 use Prim.Native.Nat.{◌+◌, ◌≤◌, ◌-◌}
 use mathlib.Core.Bool.{not}
-use mathlib.Core.Path.{sym, ◌∙◌}
-use borrow.Author.Rules.{rules}
-use Rattle.below.proofs.Search.{NoneBelow, none_zero, none_more, first_is, first_end}
-use Rattle.plan.specs.Periods.{more_of, is_continuation}
+use Rattle.below.proofs.Search.{NoneBelow}
+use Rattle.plan.specs.Periods.{is_continuation}
 use Rattle.plan.proofs.periods.more_blocks.Given as goal
 
 abbrev pub invariant-loop-i : goal.invariant-loop-i

@@ -1,11 +1,8 @@
 use Prim.Native.Nat.{◌-◌, ◌≤◌}
 use mathlib.Core.Bool.{not, ◌||◌}
-use mathlib.Core.Path.{◌≡◌, sym}
-use native.Mathlib.Omega.{arith}
+use mathlib.Core.Path.{◌≡◌}
 use Rattle.below.specs.Below.{any_below}
 use Rattle.plan.specs.Fields.{record_at, dose_of, is_marked}
-use Rattle.plan.proofs.Marks.{or_none, or_more}
-use borrow.Author.Rules.{rules}
 use Rattle.plan.proofs.periods.with_marks.Given as goal
 
 abbrev pub invariant-loop-i : goal.invariant-loop-i

@@ -1,5 +1,4 @@
 use Rattle.plan.proofs.DoseRecord.{mark_at}
-use borrow.Author.Rules.{rules}
 use Rattle.plan.proofs.records.is_marked_in.Goals as goal
 
 pub returns : goal.returns

@@ -3,7 +3,6 @@ use native.Mathlib.Omega.{arith}
 use Rattle.block.proofs.Numbers.{AreBytes}
 use Rattle.plan.specs.Fields.{dose_of}
 use Rattle.plan.proofs.FirstEight.{day_is, kind_is, mark_is, minute_is, spare_is}
-use borrow.Author.Rules.{rules}
 use Rattle.plan.proofs.records.open_record.Goals as goal
 
 pub returns : goal.returns

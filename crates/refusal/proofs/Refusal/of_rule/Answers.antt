@@ -1,4 +1,3 @@
-use borrow.Author.Rules.{rules}
 use Rattle.refusal.proofs.Refusal.of_rule.Goals as goal
 
 pub returns-then-number : goal.returns-then-number

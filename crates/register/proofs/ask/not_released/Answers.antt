@@ -1,4 +1,3 @@
-use borrow.Author.Rules.{rules}
 use Rattle.register.proofs.ask.not_released.Goals as goal
 
 pub returns : goal.returns

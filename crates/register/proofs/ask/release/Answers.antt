@@ -1,6 +1,5 @@
 use mathlib.Core.Path.{refl, sym, ◌∙◌}
 use borrow.Author.Rules.{rules}
-use borrow.Author.Tests.{not-true, not-false}
 use Rattle.register.proofs.Answering.{is_held_lem, not_held, release_unsound, release_small, release_unheld, release_unsigned, release_passed, release_refused, release_done, under_zero, under_not}
 use Rattle.register.proofs.ask.release.Goals as goal
 

@@ -1,6 +1,4 @@
 use mathlib.Core.Path.{refl, sym, ◌∙◌}
-use borrow.Author.Rules.{rules}
-use borrow.Author.Tests.{not-true, not-false}
 use Rattle.register.proofs.Answering.{call_refused, call_done, is_held_lem, not_held, state_unsound, state_unheld, state_passed, state_given, state_kept}
 use Rattle.register.proofs.ask.state_of.Goals as goal
 

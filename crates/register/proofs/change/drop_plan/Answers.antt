@@ -1,6 +1,4 @@
 use mathlib.Core.Path.{refl, sym, ap, ◌∙◌}
-use borrow.Author.Rules.{rules}
-use borrow.Author.Tests.{not-true, not-false}
 use Rattle.register.specs.Steps.{nothing_but}
 use Rattle.register.proofs.Answering.{call_refused, call_done, is_held_lem, not_held}
 use Rattle.register.proofs.Clearing.{drop_unsound, drop_unheld, drop_passed, drop_given, drop_left}

@@ -1,13 +1,9 @@
 use Prim.Native.Nat.{◌-◌, ◌≤◌}
-use mathlib.Core.Path.{◌≡◌, sym, ◌∙◌}
-use native.Mathlib.Omega.{arith}
+use mathlib.Core.Path.{◌≡◌}
 use lib.Dec.{eqb}
 use lib.ListN.{length}
-use borrow.Author.Rules.{rules}
-use Rattle.below.proofs.Search.{all_zero, all_more}
 use Rattle.below.specs.Below.{all_below}
 use Rattle.block.specs.Bytes.{byte_at}
-use Rattle.register.proofs.Signing.{same_longer, same_bytes}
 use Rattle.register.proofs.change.is_same.Given as goal
 
 abbrev pub invariant-loop-i : goal.invariant-loop-i

@@ -1,7 +1,5 @@
 use mathlib.Core.Path.{refl, sym, ap, ◌∙◌}
 use native.Mathlib.Omega.{arith}
-use borrow.Author.Rules.{rules}
-use borrow.Author.Tests.{not-true, not-false}
 use Rattle.verdict.specs.Verdict.{refusal_of}
 use Rattle.register.specs.Steps.{nothing_but}
 use Rattle.register.proofs.Answering.{call_refused, call_done, is_held_lem, not_held}

@@ -1,4 +1,3 @@
-use borrow.Author.Rules.{rules}
 use Rattle.register.proofs.Writing.{control_filled}
 use Rattle.register.proofs.fill.fill_control.Goals as goal
 

@@ -1,4 +1,3 @@
-use borrow.Author.Rules.{rules}
 use Rattle.register.proofs.Writing.{slot_back}
 use Rattle.register.proofs.fill.put_slot.Goals as goal
 

@@ -1,8 +1,7 @@
-use Prim.Native.Nat.{◌-◌, ◌≤◌}
 use mathlib.Core.Bool.{true, false}
 use mathlib.Core.Path.{◌≡◌, sym, ◌∙◌}
 use borrow.Author.Rules.{rules}
-use Rattle.below.proofs.Search.{NoneBelow, none_zero, none_more, first_is, first_end}
+use Rattle.below.proofs.Search.{none_zero, none_more, first_is, first_end}
 use Rattle.register.specs.Slots.{slot_at, is_free, free_at}
 use Rattle.register.proofs.slots.free_at.Goals as goal
 

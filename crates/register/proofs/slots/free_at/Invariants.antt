@@ -1,9 +1,6 @@
 use Prim.Native.Nat.{◌-◌, ◌≤◌}
-use mathlib.Core.Bool.{true, false}
-use mathlib.Core.Path.{◌≡◌, sym, ◌∙◌}
-use borrow.Author.Rules.{rules}
-use Rattle.below.proofs.Search.{NoneBelow, none_zero, none_more, first_is, first_end}
-use Rattle.register.specs.Slots.{slot_at, is_free, free_at}
+use Rattle.below.proofs.Search.{NoneBelow}
+use Rattle.register.specs.Slots.{slot_at, is_free}
 use Rattle.register.proofs.slots.free_at.Given as goal
 
 abbrev pub invariant-loop-i : goal.invariant-loop-i

@@ -1,8 +1,6 @@
 use Prim.Native.Nat.{◌-◌, ◌≤◌}
-use mathlib.Core.Path.{sym, ◌∙◌}
-use borrow.Author.Rules.{rules}
-use Rattle.below.proofs.Search.{NoneBelow, none_zero, none_more, first_is, first_end}
-use Rattle.register.specs.Slots.{holds_at, held_at}
+use Rattle.below.proofs.Search.{NoneBelow}
+use Rattle.register.specs.Slots.{holds_at}
 use Rattle.register.proofs.slots.held_at.Given as goal
 
 abbrev pub invariant-loop-i : goal.invariant-loop-i

@@ -1,5 +1,4 @@
 use mathlib.Core.Path.{ap, ◌∙◌}
-use borrow.Author.Rules.{rules}
 use Rattle.plan.specs.Fields.{revision_of}
 use Rattle.register.proofs.slots.holding_in.Goals as goal
 

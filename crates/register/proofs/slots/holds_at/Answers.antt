@@ -1,6 +1,5 @@
 use mathlib.Core.Bool.{true, false}
 use mathlib.Core.Path.{◌≡◌, sym, ◌∙◌}
-use borrow.Author.Rules.{rules}
 use Rattle.register.specs.Slots.{slot_at, is_free}
 use Rattle.register.proofs.slots.holds_at.Goals as goal
 

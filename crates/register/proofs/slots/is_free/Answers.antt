@@ -1,4 +1,3 @@
-use borrow.Author.Rules.{rules}
 use Rattle.register.proofs.slots.is_free.Goals as goal
 
 pub returns : goal.returns

@@ -1,5 +1,4 @@
 use native.Mathlib.Omega.{arith}
-use borrow.Author.Rules.{rules}
 use Rattle.register.proofs.Reading.{plan_is, plan_cut}
 use Rattle.register.proofs.slots.plan_in.Goals as goal
 

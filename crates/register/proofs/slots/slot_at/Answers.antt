@@ -1,5 +1,4 @@
 use native.Mathlib.Omega.{arith}
-use borrow.Author.Rules.{rules}
 use Rattle.register.proofs.Reading.{slot_is}
 use Rattle.register.proofs.slots.slot_at.Goals as goal
 

@@ -1,6 +1,5 @@
 use mathlib.Core.Path.{◌≡◌, sym, ap, ◌∙◌}
 use native.Mathlib.Omega.{arith}
-use borrow.Author.Rules.{rules}
 use Rattle.block.specs.Bytes.{is_zero}
 use Rattle.register.specs.Slots.{rest_of}
 use Rattle.register.proofs.Reading.{rest_is}

@@ -1,4 +1,3 @@
-use borrow.Author.Rules.{rules}
 use Rattle.register.proofs.Reading.{control_is}
 use Rattle.register.proofs.sound.control_right.Goals as goal
 

@@ -1,4 +1,3 @@
-use borrow.Author.Rules.{rules}
 use Rattle.register.proofs.sound.is_accepted.Goals as goal
 
 pub returns-in-Accepted : goal.returns-in-Accepted

@@ -1,10 +1,7 @@
 use Prim.Native.Nat.{◌-◌, ◌≤◌}
-use mathlib.Core.Path.{◌≡◌, sym}
-use native.Mathlib.Omega.{arith}
+use mathlib.Core.Path.{◌≡◌}
 use lib.Dec.{eqb}
 use lib.ListN.{get_or}
-use borrow.Author.Rules.{rules}
-use Rattle.below.proofs.Search.{any_zero, any_more}
 use Rattle.below.specs.Below.{any_below}
 use Rattle.register.proofs.sound.is_among.Given as goal
 

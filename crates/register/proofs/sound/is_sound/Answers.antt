@@ -1,9 +1,7 @@
-use Prim.Native.Nat.{◌-◌, ◌≤◌}
 use mathlib.Core.Path.{sym, ◌∙◌}
 use native.Mathlib.Omega.{arith}
 use borrow.Author.Rules.{rules}
-use borrow.Author.Tests.{not-true, not-false}
-use Rattle.register.proofs.Looking.{Looked, looked_none, looked_free, looked_held, looked_clash, looked_wrong, looked_all}
+use Rattle.register.proofs.Looking.{looked_none, looked_free, looked_held, looked_clash, looked_wrong, looked_all}
 use Rattle.register.proofs.sound.is_sound.Goals as goal
 
 pub loop-i-init : goal.loop-i-init

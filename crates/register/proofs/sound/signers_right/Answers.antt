@@ -1,4 +1,3 @@
-use borrow.Author.Rules.{rules}
 use Rattle.register.proofs.sound.signers_right.Goals as goal
 
 pub returns : goal.returns

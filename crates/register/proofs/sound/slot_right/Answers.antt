@@ -1,6 +1,5 @@
 use mathlib.Core.Path.{sym, ◌∙◌}
 use borrow.Author.Rules.{rules}
-use borrow.Author.Tests.{not-true, not-false}
 use Rattle.register.specs.Sound.{slot_right}
 use Rattle.register.proofs.Reading.{control_blocks}
 use Rattle.register.proofs.sound.slot_right.Goals as goal

@@ -1,8 +1,5 @@
-use mathlib.Core.Bool.{beq}
-use borrow.Author.Tests.{not-true, not-false}
 use Rattle.below.specs.Lists.{keep}
 use Rattle.split.proofs.Adding.{doses_none, doses_one}
-use borrow.Author.Rules.{rules}
 use Rattle.split.proofs.copying.add_dose_of.Goals as goal
 
 pub returns-then-not-is_marked-marked : goal.returns-then-not-is_marked-marked

@@ -1,8 +1,5 @@
-use Prim.Native.Nat.{◌-◌, ◌≤◌}
 use mathlib.Core.Path.{◌≡◌}
 use native.Mathlib.Omega.{arith}
-use lib.ListN.{length}
-use Rattle.split.specs.Code.Adding.{AddsDoses, kept_in}
 use Rattle.split.proofs.Adding.{doses_none, doses_both}
 use Rattle.split.proofs.Copied.{kept_none, kept_more, kept_rest}
 use borrow.Author.Rules.{rules}

@@ -1,7 +1,6 @@
 use native.Mathlib.Omega.{arith}
 use Rattle.split.specs.Code.Adding.{kept_in}
 use Rattle.split.proofs.Records.{kept_added, none_added}
-use borrow.Author.Rules.{rules}
 use Rattle.split.proofs.copying.add_together.Goals as goal
 
 pub returns-then-m-at : goal.returns-then-m-at

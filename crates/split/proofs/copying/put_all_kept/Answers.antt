@@ -1,9 +1,6 @@
-use Prim.Native.Nat.{◌+◌, ◌-◌, ◌≤◌}
 use mathlib.Core.Path.{◌≡◌, sym}
 use native.Mathlib.Omega.{arith}
-use lib.ListN.{length}
 use lib.Seq.{take_all, length-take-le}
-use Rattle.split.specs.Code.Adding.{kept_in, records_put}
 use Rattle.split.proofs.Copied.{kept_start, kept_turn}
 use borrow.Author.Rules.{rules}
 use Rattle.split.proofs.copying.put_all_kept.Goals as goal

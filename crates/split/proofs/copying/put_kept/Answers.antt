@@ -1,6 +1,5 @@
 use Rattle.std.proofs.Common.{ap, not}
 use Rattle.split.proofs.Copied.{not_kept, is_kept}
-use borrow.Author.Rules.{rules}
 use Rattle.split.proofs.copying.put_kept.Goals as goal
 
 pub returns-then-not-is_record_marked-marked : goal.returns-then-not-is_record_marked-marked

@@ -6,7 +6,6 @@ use Rattle.plan.specs.Periods.{block_at}
 use Rattle.split.specs.Parts.{run_last}
 use Rattle.split.proofs.Adding.{adds_none}
 use Rattle.split.proofs.Classes.{behind_last, behind_near, behind_run}
-use borrow.Author.Rules.{rules}
 use Rattle.split.proofs.part.add_behind.Goals as goal
 
 pub returns-then-n-c : goal.returns-then-n-c

@@ -1,8 +1,6 @@
 use mathlib.Core.Path.{sym, ◌∙◌}
-use borrow.Author.Tests.{not-true, not-false}
 use Rattle.split.proofs.Adding.{adds_none, adds_both}
 use Rattle.split.proofs.Classes.{brought_none, brought_some}
-use borrow.Author.Rules.{rules}
 use Rattle.split.proofs.part.add_brought.Goals as goal
 
 pub returns-then-not-is_dosed : goal.returns-then-not-is_dosed

@@ -1,5 +1,4 @@
 use Rattle.split.proofs.Adding.{adds_period, adds_dosed}
-use borrow.Author.Rules.{rules}
 use Rattle.split.proofs.part.add_dosed.Goals as goal
 
 pub returns : goal.returns

@@ -1,12 +1,8 @@
-use Prim.Native.Nat.{◌+◌, ◌-◌, ◌*◌, ◌/◌, ◌≤◌, ◌<◌, min}
+use Prim.Native.Nat.{◌*◌, ◌<◌, min}
 use mathlib.Core.Path.{◌≡◌}
 use native.Mathlib.Omega.{arith}
-use lib.ListN.{length}
-use Rattle.below.specs.Lists.{list_below, keep}
-use Rattle.plan.specs.Periods.{doses_of, dose_in}
+use Rattle.plan.specs.Periods.{doses_of}
 use Rattle.layout.specs.Reading.{doses_at}
-use Rattle.split.specs.Parts.{is_of_part}
-use Rattle.split.specs.Code.Adding.{AddsDoses}
 use Rattle.split.proofs.Adding.{doses_none, doses_both}
 use Rattle.split.proofs.Copied.{block_none, block_more}
 use borrow.Author.Rules.{rules}

@@ -1,12 +1,8 @@
-use Prim.Native.Nat.{◌-◌, ◌≤◌}
 use mathlib.Core.Path.{◌≡◌}
 use native.Mathlib.Omega.{arith}
-use lib.ListN.{length}
-use Rattle.below.specs.Lists.{join_below}
 use Rattle.below.proofs.Lists.{join_zero, join_more}
 use Rattle.plan.specs.Periods.{blocks_of}
-use Rattle.split.specs.Parts.{shared_by, shared_in}
-use Rattle.split.specs.Code.Adding.{Adds}
+use Rattle.split.specs.Parts.{shared_in}
 use Rattle.split.proofs.Adding.{adds_none, adds_both}
 use borrow.Author.Rules.{rules}
 use Rattle.split.proofs.part.add_shared.Goals as goal

@@ -1,6 +1,4 @@
-use borrow.Author.Tests.{not-true, not-false}
 use Rattle.split.proofs.Adding.{adds_none, adds_period}
-use borrow.Author.Rules.{rules}
 use Rattle.split.proofs.part.add_shared_of.Goals as goal
 
 pub returns-then-not-shares_run : goal.returns-then-not-shares_run

@@ -1,7 +1,6 @@
-use Prim.Native.Nat.{◌-◌, ◌≤◌}
-use mathlib.Core.Path.{◌≡◌, sym, ◌∙◌}
+use mathlib.Core.Path.{sym, ◌∙◌}
 use native.Mathlib.Omega.{arith}
-use Rattle.below.proofs.Search.{NoneBelow, none_zero, none_more, any_hit, any_end}
+use Rattle.below.proofs.Search.{none_zero, none_more, any_hit, any_end}
 use Rattle.plan.specs.Periods.{blocks_of}
 use Rattle.split.specs.Code.Adding.{is_other, is_alone}
 use borrow.Author.Rules.{rules}

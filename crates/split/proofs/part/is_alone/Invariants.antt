@@ -1,10 +1,8 @@
 use Prim.Native.Nat.{◌-◌, ◌≤◌}
-use mathlib.Core.Path.{◌≡◌, sym, ◌∙◌}
-use native.Mathlib.Omega.{arith}
-use Rattle.below.proofs.Search.{NoneBelow, none_zero, none_more, any_hit, any_end}
+use mathlib.Core.Path.{◌≡◌}
+use Rattle.below.proofs.Search.{NoneBelow}
 use Rattle.plan.specs.Periods.{blocks_of}
-use Rattle.split.specs.Code.Adding.{is_other, is_alone}
-use borrow.Author.Rules.{rules}
+use Rattle.split.specs.Code.Adding.{is_other}
 use Rattle.split.proofs.part.is_alone.Given as goal
 
 abbrev pub invariant-loop-b : goal.invariant-loop-b

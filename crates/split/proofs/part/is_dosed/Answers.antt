@@ -1,5 +1,4 @@
 use Rattle.split.proofs.Classes.{dosed_by}
-use borrow.Author.Rules.{rules}
 use Rattle.split.proofs.part.is_dosed.Goals as goal
 
 pub returns : goal.returns

@@ -1,12 +1,8 @@
 use Prim.Native.Nat.{ℕ, ◌+◌, ◌-◌, ◌≤◌, ◌<◌}
 use mathlib.Core.Bool.{false}
-use mathlib.Core.Path.{◌≡◌, sym, ◌∙◌}
-use native.Mathlib.Omega.{arith}
-use Rattle.below.proofs.Search.{from_hit, from_none}
+use mathlib.Core.Path.{◌≡◌}
 use Rattle.plan.specs.Periods.{blocks_of}
-use Rattle.split.specs.Parts.{is_dosed_in, next_dosed}
-use Rattle.split.proofs.Classes.{from_more}
-use borrow.Author.Rules.{rules}
+use Rattle.split.specs.Parts.{is_dosed_in}
 use Rattle.split.proofs.part.next_dosed.Given as goal
 
 abbrev pub invariant-loop-c : goal.invariant-loop-c

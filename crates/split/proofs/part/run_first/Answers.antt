@@ -1,7 +1,6 @@
 use native.Mathlib.Omega.{arith}
 use Rattle.plan.specs.Fields.{end_of}
 use Rattle.verdict.proofs.Members.{closed_not_open}
-use borrow.Author.Rules.{rules}
 use Rattle.split.proofs.part.run_first.Goals as goal
 
 pub overflow_add-result : goal.overflow_add-result

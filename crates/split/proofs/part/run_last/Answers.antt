@@ -1,7 +1,6 @@
 use mathlib.Core.Path.{ap, ◌∙◌}
 use native.Mathlib.Omega.{arith}
 use Rattle.plan.specs.Fields.{first_of}
-use borrow.Author.Rules.{rules}
 use Rattle.split.proofs.part.run_last.Goals as goal
 
 pub returns-then-first-eq0 : goal.returns-then-first-eq0

@@ -1,4 +1,3 @@
-use borrow.Author.Rules.{rules}
 use Rattle.split.proofs.part.shared_days.Goals as goal
 
 pub returns : goal.returns

@@ -1,7 +1,6 @@
 use mathlib.Core.Path.{ap, ◌∙◌}
 use Rattle.plan.specs.Fields.{first_of, last_of}
 use Rattle.split.proofs.Classes.{shares_by}
-use borrow.Author.Rules.{rules}
 use Rattle.split.proofs.part.shares_run.Goals as goal
 
 pub returns : goal.returns

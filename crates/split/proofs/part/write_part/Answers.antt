@@ -2,7 +2,6 @@ use mathlib.Core.Path.{sym, ◌∙◌}
 use native.Mathlib.Omega.{arith}
 use Rattle.block.proofs.Numbers.{AreBytes}
 use Rattle.split.proofs.Alone.{alone_put}
-use borrow.Author.Rules.{rules}
 use Rattle.split.proofs.part.write_part.Goals as goal
 
 pub returns-then-is_alone : goal.returns-then-is_alone

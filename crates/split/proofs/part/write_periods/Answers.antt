@@ -1,14 +1,10 @@
 use mathlib.Core.Path.{◌≡◌, sym, ◌∙◌}
-use Prim.Native.Nat.{◌-◌, ◌≤◌}
 use mathlib.Core.List.{[]}
 use native.Mathlib.Omega.{arith}
-use lib.ListN.{length}
-use Rattle.below.specs.Lists.{join_below}
 use Rattle.below.proofs.Lists.{join_zero, join_more}
 use Rattle.plan.specs.Periods.{blocks_of}
 use Rattle.writer.proofs.Holding.{holds_begin, holds_finish}
-use Rattle.split.specs.Parts.{brought_by, part_of, part_bytes}
-use Rattle.split.specs.Code.Adding.{Adds}
+use Rattle.split.specs.Parts.{part_of, part_bytes}
 use Rattle.split.specs.Split.{over}
 use Rattle.split.proofs.Adding.{adds_none, adds_both}
 use borrow.Author.Rules.{rules}

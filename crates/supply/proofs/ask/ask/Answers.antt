@@ -2,7 +2,6 @@ use mathlib.Core.Bool.{true, false, not}
 use mathlib.Core.Logic.{⊎_elim}
 use mathlib.Core.Path.{◌≡◌, refl, sym, ap, ◌∙◌}
 use lib.Dec.{eqb}
-use borrow.Author.Rules.{rules}
 use borrow.Author.Tests.{eqb-true, eqb-false}
 use Rattle.below.proofs.Tests.{bool_cases}
 use Rattle.verdict.specs.Verdict.{refusal_of}

@@ -1,5 +1,4 @@
 use mathlib.Core.Path.{refl}
-use borrow.Author.Rules.{rules}
 use Rattle.verdict.proofs.Exactly.{accepted_only}
 use Rattle.supply.proofs.Accepted.{orderly}
 use Rattle.supply.proofs.Asking.{dates_refused, dates_asked}

@@ -1,7 +1,5 @@
 use mathlib.Core.Bool.{true}
 use mathlib.Core.Path.{◌≡◌, refl, sym, ◌∙◌}
-use borrow.Author.Rules.{rules}
-use borrow.Author.Tests.{not-true, not-false}
 use Rattle.need.proofs.Telling.{told_any, told_day_lem}
 use Rattle.supply.specs.Code.Asking.{is_asked}
 use Rattle.supply.proofs.Beginning.{begun_refused, begun_unasked, begun_own, begun_going}

@@ -1,6 +1,4 @@
 use mathlib.Core.Path.{sym, ◌∙◌}
-use borrow.Author.Rules.{rules}
-use borrow.Author.Tests.{not-true, not-false}
 use Rattle.supply.specs.Supply.{own_by}
 use Rattle.supply.proofs.begin.own_by.Goals as goal
 

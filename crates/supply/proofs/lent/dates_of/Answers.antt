@@ -1,4 +1,4 @@
-use Rattle.std.proofs.Common.{◌≡◌, Bool, subst, ◌∙◌}
+use Rattle.std.proofs.Common.{Bool, subst, ◌∙◌}
 use Rattle.pause.specs.Pauses.{are_out}
 use Rattle.supply.specs.Code.Asking.{ForDates}
 use Rattle.supply.proofs.Asking.{set_is}

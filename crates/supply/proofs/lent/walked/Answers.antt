@@ -1,4 +1,4 @@
-use Rattle.std.proofs.Common.{◌≡◌, ℕ, ◌≤◌, arith, sym, ap, ◌∙◌, true, false}
+use Rattle.std.proofs.Common.{◌≡◌, ℕ, arith, sym, ap, ◌∙◌, true}
 use Rattle.pause.specs.Sight.{sight_of, sight_on}
 use Rattle.pause.proofs.InSight.{sight_on_lem}
 use Rattle.supply.specs.Code.Walking.{Seen}

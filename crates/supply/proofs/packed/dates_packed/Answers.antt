@@ -1,6 +1,5 @@
 use mathlib.Core.Path.{◌≡◌}
 use lib.ListN.{take}
-use borrow.Author.Rules.{rules}
 use Rattle.pause.proofs.Lists.{front_of_first, lent_few}
 use Rattle.pause.specs.Pauses.{lent_of}
 use Rattle.supply.proofs.Unpacked.{dates_unpacked}

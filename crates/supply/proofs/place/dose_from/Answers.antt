@@ -1,5 +1,4 @@
 use native.Mathlib.Omega.{arith}
-use borrow.Author.Rules.{rules}
 use borrow.Author.Tests.{ne_eqb}
 use Rattle.supply.proofs.Placing.{from_first}
 use Rattle.supply.proofs.place.dose_from.Goals as goal

@@ -1,6 +1,5 @@
 use mathlib.Core.Path.{refl}
 use native.Mathlib.Omega.{arith}
-use borrow.Author.Rules.{rules}
 use Rattle.supply.proofs.place.period_at.Goals as goal
 
 pub returns-then-b-plan : goal.returns-then-b-plan

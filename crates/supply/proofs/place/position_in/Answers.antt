@@ -1,6 +1,5 @@
 use mathlib.Core.Path.{◌≡◌}
 use native.Mathlib.Omega.{arith}
-use borrow.Author.Rules.{rules}
 use Rattle.doses.specs.Doses.{position_of}
 use Rattle.plan.specs.Fields.{header_of}
 use Rattle.plan.specs.Periods.{block_at}

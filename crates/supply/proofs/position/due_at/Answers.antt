@@ -1,9 +1,9 @@
-use Prim.Native.Nat.{◌-◌, ◌≤◌}
+use Prim.Native.Nat.{◌≤◌}
 use mathlib.Core.Path.{◌≡◌}
 use native.Mathlib.Omega.{arith}
 use borrow.Author.Rules.{rules}
 use Rattle.plan.specs.Periods.{dose_in}
-use Rattle.supply.proofs.Range.{Sums, sums_begin, sums_small, sums_go_on, sums_stop}
+use Rattle.supply.proofs.Range.{sums_begin, sums_small, sums_go_on, sums_stop}
 use Rattle.supply.proofs.position.due_at.Goals as goal
 
 pub loop-j-init : goal.loop-j-init

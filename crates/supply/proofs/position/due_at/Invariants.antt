@@ -1,9 +1,5 @@
-use Prim.Native.Nat.{◌-◌, ◌≤◌}
-use mathlib.Core.Path.{◌≡◌}
-use native.Mathlib.Omega.{arith}
-use borrow.Author.Rules.{rules}
-use Rattle.plan.specs.Periods.{dose_in}
-use Rattle.supply.proofs.Range.{Sums, sums_begin, sums_small, sums_go_on, sums_stop}
+use Prim.Native.Nat.{◌-◌}
+use Rattle.supply.proofs.Range.{Sums}
 use Rattle.supply.proofs.position.due_at.Given as goal
 
 abbrev pub invariant-loop-j : goal.invariant-loop-j

@@ -1,7 +1,6 @@
-use Prim.Native.Nat.{ℕ, ◌≤◌, ◌<◌, ◌-◌, ◌+◌, ◌/◌}
+use Prim.Native.Nat.{◌-◌, ◌+◌, ◌/◌}
 use native.Mathlib.Omega.{arith}
 use borrow.Author.Rules.{rules}
-use Rattle.plan.specs.Periods.{dose_in}
 use Rattle.supply.proofs.position.first_from.Goals as goal
 
 pub loop-lo-init : goal.loop-lo-init

@@ -1,4 +1,3 @@
-use borrow.Author.Rules.{rules}
 use Rattle.supply.proofs.rounds.need_in_round.Goals as goal
 
 pub returns-then-t-eq1 : goal.returns-then-t-eq1

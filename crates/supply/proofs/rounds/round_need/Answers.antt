@@ -1,9 +1,8 @@
-use Prim.Native.Nat.{◌-◌, ◌≤◌}
+use Prim.Native.Nat.{◌≤◌}
 use mathlib.Core.Path.{◌≡◌, sym, ◌∙◌}
 use native.Mathlib.Omega.{arith}
 use borrow.Author.Rules.{rules}
 use Rattle.below.proofs.Total.{sum_zero, sum_more, sum_le}
-use Rattle.below.specs.Below.{sum_below}
 use Rattle.need.specs.Need.{chosen}
 use Rattle.plan.specs.Periods.{doses_of, dose_in}
 use Rattle.supply.specs.Code.Standing.{round_need}

@@ -1,12 +1,8 @@
 use Prim.Native.Nat.{◌-◌, ◌≤◌}
-use mathlib.Core.Path.{◌≡◌, sym, ◌∙◌}
-use native.Mathlib.Omega.{arith}
-use borrow.Author.Rules.{rules}
-use Rattle.below.proofs.Total.{sum_zero, sum_more, sum_le}
+use mathlib.Core.Path.{◌≡◌}
 use Rattle.below.specs.Below.{sum_below}
 use Rattle.need.specs.Need.{chosen}
-use Rattle.plan.specs.Periods.{doses_of, dose_in}
-use Rattle.supply.specs.Code.Standing.{round_need}
+use Rattle.plan.specs.Periods.{dose_in}
 use Rattle.supply.proofs.rounds.round_need.Given as goal
 
 abbrev pub invariant-loop-j : goal.invariant-loop-j

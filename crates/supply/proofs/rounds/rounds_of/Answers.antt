@@ -1,5 +1,4 @@
 use mathlib.Core.Path.{◌≡◌, refl}
-use borrow.Author.Rules.{rules}
 use Rattle.plan.specs.Fields.{last_of}
 use Rattle.plan.specs.Periods.{block_at}
 use Rattle.supply.proofs.rounds.rounds_of.Goals as goal

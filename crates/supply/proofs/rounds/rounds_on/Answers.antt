@@ -1,5 +1,4 @@
 use mathlib.Core.Path.{refl}
-use borrow.Author.Rules.{rules}
 use Rattle.supply.proofs.Clearing.{three}
 use Rattle.supply.proofs.rounds.rounds_on.Goals as goal
 

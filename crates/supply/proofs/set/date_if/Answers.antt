@@ -1,5 +1,3 @@
-use borrow.Author.Rules.{rules}
-use borrow.Author.Tests.{not-true, not-false}
 use Rattle.supply.proofs.set.date_if.Goals as goal
 
 pub returns-then-not-wanted : goal.returns-then-not-wanted

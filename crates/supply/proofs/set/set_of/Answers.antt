@@ -1,4 +1,3 @@
-use borrow.Author.Rules.{rules}
 use Rattle.supply.specs.Dates.{set_of}
 use Rattle.supply.proofs.set.set_of.Goals as goal
 

@@ -1,13 +1,9 @@
-use Prim.Native.Nat.{ℕ, ◌-◌, ◌≤◌, ◌<◌}
-use mathlib.Core.Path.{◌≡◌, refl, sym, ◌∙◌}
-use native.Mathlib.Omega.{arith}
-use borrow.Author.Rules.{rules}
-use Rattle.need.proofs.Telling.{Behind, behind_none, behind_half, behind_first}
+use Prim.Native.Nat.{ℕ, ◌-◌, ◌≤◌}
+use mathlib.Core.Path.{◌≡◌}
+use Rattle.need.proofs.Telling.{Behind}
 use Rattle.need.specs.Telling.{Tells}
 use Rattle.plan.specs.Periods.{blocks_of}
 use Rattle.supply.specs.Code.Surveying.{Surveyed}
-use Rattle.supply.proofs.Surveying.{survey_begin, survey_end}
-use Rattle.supply.proofs.WholeRounds.{chosen_class}
 use Rattle.supply.proofs.survey.survey_of.Given as goal
 
 abbrev pub invariant-loop-b : goal.invariant-loop-b

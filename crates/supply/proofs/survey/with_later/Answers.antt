@@ -1,4 +1,3 @@
-use borrow.Author.Rules.{rules}
 use Rattle.supply.proofs.survey.with_later.Goals as goal
 
 pub returns-then-chosen : goal.returns-then-chosen

@@ -1,4 +1,3 @@
-use borrow.Author.Rules.{rules}
 use Rattle.supply.proofs.taking.need_of.Goals as goal
 
 pub returns : goal.returns

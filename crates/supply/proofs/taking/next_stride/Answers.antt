@@ -2,7 +2,6 @@ use Prim.Native.Nat.{◌<◌}
 use mathlib.Core.Logic.{inl, inr}
 use mathlib.Core.Path.{refl}
 use native.Mathlib.Omega.{arith}
-use borrow.Author.Rules.{rules}
 use Rattle.supply.proofs.taking.next_stride.Goals as goal
 
 pub returns-then-rounds-eq-NO_ROUNDS : goal.returns-then-rounds-eq-NO_ROUNDS

@@ -2,7 +2,6 @@ use Prim.Native.Nat.{◌<◌}
 use mathlib.Core.Logic.{⊎_elim}
 use native.Mathlib.Omega.{arith}
 use lib.Dec.{eqb}
-use borrow.Author.Rules.{rules}
 use borrow.Author.Tests.{eqb-true, eqb-false}
 use Rattle.below.proofs.Tests.{true_not_false, or_either, or_neither}
 use Rattle.supply.proofs.taking.rounds_due.Goals as goal

@@ -1,7 +1,6 @@
 use mathlib.Core.Logic.{inl, inr, ⊎_elim}
 use native.Mathlib.Nat.{mul-zero}
 use native.Mathlib.Omega.{arith}
-use borrow.Author.Rules.{rules}
 use borrow.Author.Tests.{ltb-true}
 use Rattle.below.proofs.Tests.{or_either}
 use Rattle.supply.proofs.Striding.{most_none, most_room, most_least}

@@ -1,6 +1,5 @@
 use mathlib.Core.Path.{sym}
 use native.Mathlib.Nat.{div-one}
-use borrow.Author.Rules.{rules}
 use Rattle.supply.proofs.taking.whole_rounds.Goals as goal
 
 pub returns-then-interval-eq1 : goal.returns-then-interval-eq1

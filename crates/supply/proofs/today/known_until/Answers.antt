@@ -1,5 +1,4 @@
 use mathlib.Core.Path.{refl}
-use borrow.Author.Rules.{rules}
 use Rattle.supply.proofs.today.known_until.Goals as goal
 
 pub returns-then-chosen-rounds : goal.returns-then-chosen-rounds

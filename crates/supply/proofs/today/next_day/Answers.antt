@@ -1,5 +1,4 @@
 use mathlib.Core.Path.{refl}
-use borrow.Author.Rules.{rules}
 use borrow.Author.Tests.{not-true}
 use Rattle.below.proofs.Tests.{true_not_false}
 use Rattle.supply.proofs.today.next_day.Goals as goal

@@ -2,7 +2,6 @@ use mathlib.Core.Bool.{cond, ◌&&◌, ◌||◌}
 use mathlib.Core.Path.{◌≡◌}
 use native.Mathlib.Omega.{arith}
 use lib.Dec.{ltb}
-use borrow.Author.Rules.{rules}
 use Rattle.need.specs.Need.{due_on}
 use Rattle.supply.specs.Code.Standing.{is_still, kept_of}
 use Rattle.supply.proofs.Clearing.{counts_one, counts_other}

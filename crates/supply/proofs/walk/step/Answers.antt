@@ -1,7 +1,6 @@
 use Prim.Native.Nat.{◌≤◌}
 use mathlib.Core.Path.{refl}
 use native.Mathlib.Omega.{arith}
-use borrow.Author.Rules.{rules}
 use Rattle.supply.proofs.Standing.{known_small}
 use Rattle.supply.proofs.Striding.{takes_stays, takes_need, takes_days, takes_none}
 use Rattle.supply.proofs.Walking.{able, went_from, went_over, went_step}

@@ -1,7 +1,6 @@
 use Prim.Native.Nat.{◌<◌}
 use mathlib.Core.Path.{refl}
 use native.Mathlib.Omega.{arith}
-use borrow.Author.Rules.{rules}
 use borrow.Author.Tests.{eqb-false, ltb-false}
 use Rattle.below.proofs.Tests.{or_neither}
 use Rattle.supply.proofs.walk.stood.Goals as goal

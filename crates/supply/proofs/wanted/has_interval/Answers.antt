@@ -1,10 +1,9 @@
-use Prim.Native.Nat.{◌-◌, ◌≤◌}
 use mathlib.Core.Bool.{true, false}
 use mathlib.Core.Path.{◌≡◌, sym}
 use native.Mathlib.Omega.{arith}
 use borrow.Author.Rules.{rules}
-use Rattle.below.proofs.Search.{NoneBelow, none_zero, none_more, any_hit, any_end}
-use Rattle.plan.specs.Periods.{doses_of, dose_in}
+use Rattle.below.proofs.Search.{none_zero, none_more, any_hit, any_end}
+use Rattle.plan.specs.Periods.{dose_in}
 use Rattle.supply.specs.Dates.{is_interval, has_interval}
 use Rattle.supply.proofs.wanted.has_interval.Goals as goal
 

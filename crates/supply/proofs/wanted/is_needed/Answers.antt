@@ -1,4 +1,3 @@
-use borrow.Author.Rules.{rules}
 use Rattle.need.proofs.Telling.{told_any, told_day_lem}
 use Rattle.supply.proofs.Wanting.{needed_stop}
 use Rattle.supply.proofs.wanted.is_needed.Goals as goal

@@ -1,11 +1,9 @@
-use Prim.Native.Nat.{◌-◌, ◌≤◌}
-use mathlib.Core.Bool.{true, false, ◌&&◌}
-use mathlib.Core.Path.{◌≡◌, sym, ◌∙◌}
+use mathlib.Core.Bool.{◌&&◌}
+use mathlib.Core.Path.{sym, ◌∙◌}
 use native.Mathlib.Omega.{arith}
-use Rattle.below.proofs.Search.{NoneBelow, none_zero, none_more, any_hit, any_end}
-use Rattle.need.proofs.Telling.{Behind, behind_none, behind_half, behind_first}
+use Rattle.below.proofs.Search.{none_zero, none_more, any_hit, any_end}
+use Rattle.need.proofs.Telling.{behind_none, behind_half, behind_first}
 use Rattle.need.specs.Need.{fixed_or_mixed}
-use Rattle.plan.specs.Periods.{blocks_of}
 use Rattle.supply.specs.Dates.{ends_from, has_interval, is_ranging}
 use Rattle.supply.proofs.Wanting.{ranges_told}
 use borrow.Author.Rules.{rules}

@@ -1,14 +1,11 @@
 use Prim.Native.Nat.{◌-◌, ◌≤◌}
-use mathlib.Core.Bool.{true, false, ◌&&◌}
-use mathlib.Core.Path.{◌≡◌, sym, ◌∙◌}
-use native.Mathlib.Omega.{arith}
-use Rattle.below.proofs.Search.{NoneBelow, none_zero, none_more, any_hit, any_end}
-use Rattle.need.proofs.Telling.{Behind, behind_none, behind_half, behind_first}
+use mathlib.Core.Bool.{◌&&◌}
+use mathlib.Core.Path.{◌≡◌}
+use Rattle.below.proofs.Search.{NoneBelow}
+use Rattle.need.proofs.Telling.{Behind}
 use Rattle.need.specs.Need.{fixed_or_mixed}
 use Rattle.plan.specs.Periods.{blocks_of}
-use Rattle.supply.specs.Dates.{ends_from, has_interval, is_ranging}
-use Rattle.supply.proofs.Wanting.{ranges_told}
-use borrow.Author.Rules.{rules}
+use Rattle.supply.specs.Dates.{ends_from, has_interval}
 use Rattle.supply.proofs.wanted.is_ranging.Given as goal
 
 abbrev pub invariant-loop-b : goal.invariant-loop-b

@@ -1,7 +1,6 @@
 use mathlib.Core.Bool.{true, false}
 use mathlib.Core.Path.{◌≡◌, sym, ◌∙◌}
-use borrow.Author.Rules.{rules}
-use borrow.Author.Tests.{le-leb, lt-leb, not-true, not-false}
+use borrow.Author.Tests.{le-leb, lt-leb}
 use Rattle.plan.specs.Fields.{last_of}
 use Rattle.plan.specs.Periods.{block_at}
 use Rattle.supply.proofs.wanted.is_ranging_at.Goals as goal

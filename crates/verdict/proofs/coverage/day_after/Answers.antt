@@ -1,7 +1,6 @@
 use Prim.Native.Nat.{ℕ, ◌+◌}
 use mathlib.Core.Path.{ap}
 use native.Mathlib.Omega.{arith}
-use borrow.Author.Rules.{rules}
 use Rattle.plan.specs.Fields.{end_of}
 use Rattle.verdict.proofs.Members.{closed_not_open}
 use Rattle.verdict.proofs.coverage.day_after.Goals as goal

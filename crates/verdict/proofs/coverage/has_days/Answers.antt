@@ -1,4 +1,3 @@
-use borrow.Author.Rules.{rules}
 use Rattle.verdict.proofs.coverage.has_days.Goals as goal
 
 pub returns : goal.returns

@@ -1,4 +1,3 @@
-use borrow.Author.Rules.{rules}
 use Rattle.verdict.proofs.coverage.in_group.Goals as goal
 
 pub returns-in-Fixed : goal.returns-in-Fixed

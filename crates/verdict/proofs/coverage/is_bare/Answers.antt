@@ -1,11 +1,11 @@
-use Prim.Native.Nat.{ℕ, ◌≤◌, ◌-◌}
+use Prim.Native.Nat.{ℕ}
 use mathlib.Core.Bool.{not, ◌&&◌}
 use mathlib.Core.Path.{◌≡◌, sym, ◌∙◌}
 use lib.Dec.{eqb}
 use lib.ListN.{get_or}
 use borrow.Author.Rules.{rules}
 use Rattle.below.specs.Below.{any_below}
-use Rattle.below.proofs.Search.{NoneBelow, none_zero, none_more, any_zero, any_more, any_end}
+use Rattle.below.proofs.Search.{none_zero, none_more, any_zero, any_more, any_end}
 use Rattle.below.proofs.Tests.{at_end}
 use Rattle.plan.specs.Fields.{vka_of}
 use Rattle.plan.specs.Periods.{is_period, block_at}

@@ -1,16 +1,9 @@
-use Prim.Native.Nat.{ℕ, ◌≤◌, ◌-◌}
-use mathlib.Core.Bool.{not, ◌&&◌}
-use mathlib.Core.Path.{◌≡◌, sym, ◌∙◌}
-use lib.Dec.{eqb}
-use lib.ListN.{get_or}
-use borrow.Author.Rules.{rules}
+use Prim.Native.Nat.{◌≤◌, ◌-◌}
+use mathlib.Core.Path.{◌≡◌}
 use Rattle.below.specs.Below.{any_below}
-use Rattle.below.proofs.Search.{NoneBelow, none_zero, none_more, any_zero, any_more, any_end}
-use Rattle.below.proofs.Tests.{at_end}
-use Rattle.plan.specs.Fields.{vka_of}
-use Rattle.plan.specs.Periods.{is_period, block_at}
-use Rattle.verdict.specs.Coverage.{is_dosed, bare}
-use Rattle.verdict.proofs.Members.{dosed_entry, dosed_not_bare}
+use Rattle.below.proofs.Search.{NoneBelow}
+use Rattle.plan.specs.Periods.{is_period}
+use Rattle.verdict.specs.Coverage.{is_dosed}
 use Rattle.verdict.proofs.coverage.is_bare.Given as goal
 
 abbrev pub invariant-loop-b : goal.invariant-loop-b

@@ -1,4 +1,3 @@
-use borrow.Author.Rules.{rules}
 use Rattle.verdict.specs.Coverage.{in_group, is_member}
 use Rattle.verdict.proofs.Members.{by_entry}
 use Rattle.verdict.proofs.coverage.is_member.Goals as goal

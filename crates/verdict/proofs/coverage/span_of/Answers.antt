@@ -1,4 +1,3 @@
-use borrow.Author.Rules.{rules}
 use Rattle.verdict.proofs.coverage.span_of.Goals as goal
 
 pub returns : goal.returns

@@ -1,9 +1,6 @@
 use Prim.Native.Nat.{◌≤◌, ◌-◌}
-use mathlib.Core.Path.{sym, ◌∙◌}
-use borrow.Author.Rules.{rules}
-use Rattle.below.proofs.Search.{NoneBelow, none_zero, none_more, any_hit, any_end}
+use Rattle.below.proofs.Search.{NoneBelow}
 use Rattle.verdict.specs.Code.Groups.{hole_after}
-use Rattle.verdict.proofs.DayAfter.{hole_after_lem}
 use Rattle.verdict.proofs.holes.has_hole.Given as goal
 
 abbrev pub invariant-loop-b : goal.invariant-loop-b

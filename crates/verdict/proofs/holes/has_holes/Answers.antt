@@ -1,5 +1,4 @@
 use Rattle.verdict.specs.Coverage.{holes}
-use borrow.Author.Rules.{rules}
 use Rattle.verdict.proofs.holes.has_holes.Goals as goal
 
 pub returns : goal.returns

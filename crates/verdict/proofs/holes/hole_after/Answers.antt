@@ -1,6 +1,4 @@
 use mathlib.Core.Path.{sym, ◌∙◌}
-use borrow.Author.Rules.{rules}
-use borrow.Author.Tests.{not-true, not-false}
 use Rattle.verdict.specs.Code.Groups.{hole_after}
 use Rattle.verdict.proofs.holes.hole_after.Goals as goal
 

@@ -1,4 +1,3 @@
-use borrow.Author.Rules.{rules}
 use Rattle.verdict.specs.Coverage.{hole_at}
 use Rattle.verdict.proofs.holes.is_hole.Goals as goal
 

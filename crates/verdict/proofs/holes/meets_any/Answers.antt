@@ -1,8 +1,7 @@
-use Prim.Native.Nat.{◌≤◌, ◌-◌}
 use mathlib.Core.Path.{sym, ◌∙◌}
 use borrow.Author.Rules.{rules}
-use Rattle.below.proofs.Search.{NoneBelow, none_zero, none_more, any_hit, any_end}
-use Rattle.verdict.specs.Coverage.{meets_at, meets}
+use Rattle.below.proofs.Search.{none_zero, none_more, any_hit, any_end}
+use Rattle.verdict.specs.Coverage.{meets}
 use Rattle.verdict.proofs.holes.meets_any.Goals as goal
 
 pub loop-b-init : goal.loop-b-init

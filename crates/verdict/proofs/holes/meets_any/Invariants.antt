@@ -1,8 +1,6 @@
 use Prim.Native.Nat.{◌≤◌, ◌-◌}
-use mathlib.Core.Path.{sym, ◌∙◌}
-use borrow.Author.Rules.{rules}
-use Rattle.below.proofs.Search.{NoneBelow, none_zero, none_more, any_hit, any_end}
-use Rattle.verdict.specs.Coverage.{meets_at, meets}
+use Rattle.below.proofs.Search.{NoneBelow}
+use Rattle.verdict.specs.Coverage.{meets_at}
 use Rattle.verdict.proofs.holes.meets_any.Given as goal
 
 abbrev pub invariant-loop-b : goal.invariant-loop-b

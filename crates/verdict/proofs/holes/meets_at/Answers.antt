@@ -1,4 +1,3 @@
-use borrow.Author.Rules.{rules}
 use Rattle.verdict.proofs.Meeting.{meets_is}
 use Rattle.verdict.proofs.holes.meets_at.Goals as goal
 

@@ -1,7 +1,5 @@
 use mathlib.Core.Bool.{true}
 use mathlib.Core.Path.{◌≡◌, sym, ◌∙◌}
-use borrow.Author.Rules.{rules}
-use borrow.Author.Tests.{not-true, not-false}
 use Rattle.verdict.specs.Coverage.{in_group}
 use Rattle.verdict.specs.Code.Groups.{cover_of}
 use Rattle.verdict.specs.Code.Walks.{reach_on}

@@ -3,7 +3,6 @@ use Rattle.form.proofs.Formed.{formed}
 use Rattle.verdict.specs.declared.Answer.TheVariants.{Broken}
 use Rattle.verdict.proofs.Lowest.{form_broken}
 use Rattle.verdict.proofs.Passing.{formed_few, judged_broken, judged_clear, judged_ready, judged_classes, has_classes}
-use borrow.Author.Rules.{rules}
 use Rattle.verdict.proofs.order.judge.Goals as goal
 
 pub returns-in-Broken : goal.returns-in-Broken

@@ -1,10 +1,7 @@
 use Prim.Native.Nat.{◌≤◌, ◌-◌}
 use mathlib.Core.Path.{◌≡◌}
-use native.Mathlib.Omega.{arith}
 use Rattle.plan.specs.Periods.{blocks_of}
 use Rattle.verdict.specs.Code.Judging.{Judged}
-use Rattle.verdict.proofs.Passing.{judged_zero}
-use borrow.Author.Rules.{rules}
 use Rattle.verdict.proofs.order.judge_periods.Given as goal
 
 abbrev pub invariant-loop-b : goal.invariant-loop-b

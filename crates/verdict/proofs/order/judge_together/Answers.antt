@@ -3,7 +3,6 @@ use native.Mathlib.Omega.{arith}
 use Rattle.verdict.specs.declared.Answer.TheVariants.{Broken}
 use Rattle.verdict.proofs.Lowest.{row_16}
 use Rattle.verdict.proofs.Passing.{unbroken_more, broken_15, passed_15, broken_16, passed_16, broken_17, accepted_17}
-use borrow.Author.Rules.{rules}
 use Rattle.verdict.proofs.order.judge_together.Goals as goal
 
 pub returns-then-are_alike : goal.returns-then-are_alike

@@ -1,4 +1,3 @@
-use borrow.Author.Rules.{rules}
 use Rattle.verdict.proofs.order.refusal_of.Goals as goal
 
 pub returns-in-Accepted : goal.returns-in-Accepted

@@ -1,6 +1,5 @@
 use mathlib.Core.Path.{sym, ◌∙◌}
 use Rattle.verdict.specs.Classes.{classes_by}
-use borrow.Author.Rules.{rules}
 use Rattle.verdict.proofs.order.verdict_with_classes.Goals as goal
 
 pub returns-in-Accepted : goal.returns-in-Accepted

@@ -1,7 +1,5 @@
 use mathlib.Core.Path.{sym, ◌∙◌}
-use borrow.Author.Tests.{not-true, not-false}
 use Rattle.verdict.proofs.Passing.{judged_past, judged_same, judged_new}
-use borrow.Author.Rules.{rules}
 use Rattle.verdict.proofs.order.with_block.Goals as goal
 
 pub returns-then-not-is_period : goal.returns-then-not-is_period

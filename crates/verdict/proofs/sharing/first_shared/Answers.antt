@@ -1,7 +1,5 @@
-use Prim.Native.Nat.{◌≤◌, ◌-◌}
 use mathlib.Core.Path.{sym, ◌∙◌}
-use Rattle.below.proofs.Search.{NoneBelow, none_zero, none_more, first_is, first_end}
-use Rattle.verdict.specs.Coverage.{shares}
+use Rattle.below.proofs.Search.{none_zero, none_more, first_is, first_end}
 use borrow.Author.Rules.{rules}
 use Rattle.verdict.proofs.sharing.first_shared.Goals as goal
 

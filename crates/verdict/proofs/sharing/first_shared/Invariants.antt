@@ -1,8 +1,6 @@
 use Prim.Native.Nat.{◌≤◌, ◌-◌}
-use mathlib.Core.Path.{sym, ◌∙◌}
-use Rattle.below.proofs.Search.{NoneBelow, none_zero, none_more, first_is, first_end}
+use Rattle.below.proofs.Search.{NoneBelow}
 use Rattle.verdict.specs.Coverage.{shares}
-use borrow.Author.Rules.{rules}
 use Rattle.verdict.proofs.sharing.first_shared.Given as goal
 
 abbrev pub invariant-loop-b : goal.invariant-loop-b

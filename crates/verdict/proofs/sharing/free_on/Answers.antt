@@ -1,6 +1,4 @@
 use mathlib.Core.Path.{sym, ◌∙◌}
-use borrow.Author.Rules.{rules}
-use borrow.Author.Tests.{not-true, not-false}
 use Rattle.verdict.specs.Code.Walks.{free_on}
 use Rattle.verdict.proofs.sharing.free_on.Goals as goal
 

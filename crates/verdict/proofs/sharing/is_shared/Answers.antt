@@ -1,11 +1,9 @@
-use Prim.Native.Nat.{◌≤◌, ◌-◌}
 use mathlib.Core.Bool.{true}
 use mathlib.Core.Path.{◌≡◌, sym, ◌∙◌}
 use borrow.Author.Rules.{rules}
-use borrow.Author.Tests.{not-true, not-false}
-use Rattle.below.proofs.Search.{NoneBelow, none_zero, none_more, any_hit, any_end}
+use Rattle.below.proofs.Search.{none_zero, none_more, any_hit, any_end}
 use Rattle.plan.specs.Periods.{is_period}
-use Rattle.verdict.specs.Coverage.{shares_with, shares}
+use Rattle.verdict.specs.Coverage.{shares}
 use Rattle.verdict.proofs.sharing.is_shared.Goals as goal
 use Rattle.verdict.proofs.sharing.is_shared.Goals.{Else-not-is_period}
 

@@ -1,5 +1,4 @@
 use mathlib.Core.Path.{◌≡◌}
-use borrow.Author.Rules.{rules}
 use Rattle.plan.specs.Fields.{first_of, last_of}
 use Rattle.plan.specs.Periods.{block_at}
 use Rattle.verdict.specs.Coverage.{has_days}

@@ -1,15 +1,14 @@
-use Prim.Native.Nat.{◌≤◌, ◌-◌}
+use Prim.Native.Nat.{◌≤◌}
 use mathlib.Core.Bool.{not, ◌||◌}
 use mathlib.Core.Path.{refl, sym, ◌∙◌}
 use native.Mathlib.Omega.{arith}
 use lib.Dec.{eqb}
-use borrow.Author.Tests.{eqb-false, not-true, not-false}
+use borrow.Author.Tests.{eqb-false, not-true}
 use Rattle.below.proofs.Tests.{and_both, or_neither, true_not_false}
 use Rattle.plan.specs.Periods.{blocks_of}
-use Rattle.verdict.specs.declared.Group.TheVariants.{All}
-use Rattle.verdict.proofs.Alike.{Alike, alike_zero, alike_past, alike_on, alike_dosed, alike_holes}
-use Rattle.verdict.proofs.Apart.{Walks, walks_zero, walks_past, walks_on, walks_all}
-use Rattle.verdict.proofs.Reach.{Reaches, reaches_zero, reaches_past, reaches_on, reaches_end}
+use Rattle.verdict.proofs.Alike.{alike_zero, alike_past, alike_on, alike_dosed, alike_holes}
+use Rattle.verdict.proofs.Apart.{walks_zero, walks_past, walks_on, walks_all}
+use Rattle.verdict.proofs.Reach.{reaches_zero, reaches_past, reaches_on, reaches_end}
 use borrow.Author.Rules.{rules}
 use Rattle.verdict.proofs.usual.are_alike.Goals as goal
 

@@ -1,13 +1,11 @@
-use Prim.Native.Nat.{◌≤◌, ◌-◌}
 use mathlib.Core.Bool.{not, ◌||◌}
 use mathlib.Core.Path.{sym, ◌∙◌}
 use native.Mathlib.Omega.{arith}
-use borrow.Author.Tests.{not-true, not-false}
+use borrow.Author.Tests.{not-true}
 use Rattle.below.proofs.Tests.{and_both, or_neither, neither_or}
 use Rattle.verdict.specs.Coverage.{holes}
-use Rattle.verdict.specs.declared.Group.TheVariants.{All, Fixed, Need, FixedOrEmpty}
-use Rattle.verdict.proofs.Apart.{Walks, walks_zero, walks_past, walks_on, walks_end}
-use Rattle.verdict.proofs.Reach.{Reaches, reaches_zero, reaches_past, reaches_on, reaches_end}
+use Rattle.verdict.proofs.Apart.{walks_zero, walks_past, walks_on, walks_end}
+use Rattle.verdict.proofs.Reach.{reaches_zero, reaches_past, reaches_on, reaches_end}
 use borrow.Author.Rules.{rules}
 use Rattle.verdict.proofs.usual.are_usual.Goals as goal
 

@@ -1,4 +1,3 @@
-use borrow.Author.Rules.{rules}
 use Rattle.writer.proofs.Filling.{head_filled}
 use Rattle.writer.proofs.fill.fill_head.Goals as goal
 

@@ -1,4 +1,3 @@
-use borrow.Author.Rules.{rules}
 use Rattle.writer.proofs.Filling.{period_filled}
 use Rattle.writer.proofs.fill.fill_period.Goals as goal
 
