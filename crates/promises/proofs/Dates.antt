@@ -97,7 +97,7 @@ by_both = rw kinds_accepted all.both
 pub by_needed : supply_of (plan both_kinds) 8077 1200 4 [] ≡ Lasts (record { days = 4; last = 8080; rest = 0; reason = 1 })
 by_needed = rw kinds_accepted all.needed
 
--- the need_only plan has no fixed or mixed period
+-- the need-only plan has no fixed or mixed period
 pub only_need_lem : NeedOnly (plan only_need)
 unfolding has_stop_by choice_of
 only_need_lem b l t = rw t at (any_not (stops_at 1 (class_of (plan only_need)) (plan only_need)) all.none_fixed b l)

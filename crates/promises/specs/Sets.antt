@@ -35,7 +35,7 @@ pub record DatesAre (p : List ℕ) (start : ℕ) (supply : ℕ → Supply) (x : 
   pub needed : is_needed start p ≡ true → IsDate (supply 3) x.third × IsDate (supply 4) x.fourth
   pub not_needed : is_needed start p ≡ false → (x.third ≡ open_mark) × (x.fourth ≡ open_mark)
 
--- "a need_only plan"
+-- "a need-only plan"
 abbrev pub NeedOnly : List ℕ → Type 0
 NeedOnly p = (b : ℕ) → b < blocks_of p → is_period p b ≡ true → fixed_or_mixed (class_of p b) ≡ false
 
@@ -45,6 +45,6 @@ pub record Sets (p : List ℕ) (start : ℕ) (supply : ℕ → Supply) (set : Da
   pub refused : ((refusal_in_set set).number ≡ 0 → ⊥) → dates_in set ≡ no_dates
   -- where there is one end date it does not matter by which amounts: the whole answers are the same
   pub one_answer : is_ranging start p ≡ false → supply 1 ≡ supply 2
-  -- "For a need_only plan 3 and 4 are proved equal.": the whole answers, and the dates
+  -- "For a need-only plan 3 and 4 are proved equal.": the whole answers, and the dates
   pub need_only : NeedOnly p → supply 3 ≡ supply 4
   pub need_only_dates : NeedOnly p → (dates_in set).third ≡ (dates_in set).fourth

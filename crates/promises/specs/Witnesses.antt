@@ -68,7 +68,7 @@ pub record Witnesses : Type 0 where
   pub packed_dosage_ends : packed_supply_of (plan one_daily) 8077 50000 2 [] ≡ Lasts (record { days = 29; last = 8105; rest = 47100; reason = 2 })
   pub packed_calendar_ends : packed_supply_of (plan two_daily) 73047 500 2 [] ≡ Lasts (record { days = 2; last = 73048; rest = 100; reason = 3 })
   -- W1: a supply by each of its two choices; a set with a minimum, a maximum and dates 3 and 4, all different, one with an end date, and
-  -- one of a need_only plan; with a list of pauses and in the call that the screen makes
+  -- one of a need-only plan; with a list of pauses and in the call that the screen makes
   pub by_both : supply_of (plan both_kinds) 8077 1200 3 [] ≡ Lasts (record { days = 2; last = 8078; rest = 200; reason = 1 })
   pub by_needed : supply_of (plan both_kinds) 8077 1200 4 [] ≡ Lasts (record { days = 4; last = 8080; rest = 0; reason = 1 })
   pub four_dates : dates_of (plan both_kinds) 8077 1200 [] ≡ Given (record { end = open_mark; minimum = 8088; maximum = 8082; third = 8078; fourth = 8080 })
