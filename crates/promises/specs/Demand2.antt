@@ -2,7 +2,7 @@
 -- FMK pages. A plan is accepted exactly when no rule is broken, and otherwise the first broken rule is named."
 -- That each function's answer is the one of its definition in specs/ is its contract. Here stands what those definitions come to.
 use Rattle.std.specs.Prelude.{ℕ, ◌+◌, ◌-◌, ◌≤◌, ◌<◌, Bool, true, false, cond, List, ◌≡◌, eqb, length, get_or}
-use Rattle.std.proofs.Math.Option.{none, some}
+use mathlib.Core.Option.{none, some}
 use Rattle.day.specs.Days.{closed_day, open_mark}
 use Rattle.layout.specs.Layout.{Written}
 use Rattle.layout.specs.Reading.{head_of, periods_of}
