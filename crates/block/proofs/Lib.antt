@@ -8,3 +8,5 @@ pub mod Turns
 pub mod Zero
 pub mod Zeros
 pub mod Pieces
+pub mod Parts
+pub mod Closures

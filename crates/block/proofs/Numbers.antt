@@ -1,6 +1,5 @@
 -- Laws of the numbers in a list of bytes, over the width. Assumes nothing.
-use Rattle.std.proofs.Common.{◌≡◌, ℕ, zero, suc, ◌+◌, ◌-◌, ◌*◌, ◌/◌, ◌%◌, ◌^◌, ◌<◌, ◌≤◌, List, ◌∷◌, length, take, drop, refl, ap, mul_assoc, mul_comm, suc-add, pow-suc, zero-add, add-one, arith, get_or-drop, drop-cons, get_or-take}
-use native.Mathlib.Nat.{pow-le-pow_right}
+use Rattle.std.proofs.Common.{◌≡◌, ℕ, zero, suc, ◌+◌, ◌*◌, ◌/◌, ◌%◌, ◌^◌, ◌<◌, ◌≤◌, List, ◌∷◌, length, take, drop, refl, ap, mul_assoc, mul_comm, suc-add, pow-suc, zero-add, add-one, arith, get_or-drop, drop-cons, get_or-take}
 use lib.ListN.{get_or-eq_default}
 use Rattle.block.specs.Bytes.{byte_at, number_at, bytes_of}
 
@@ -19,25 +18,6 @@ number_split (suc v) w s i =
     let p : 256 ^ suc v * number_at w s (i + 1 + v) ≡ 256 * (256 ^ v * number_at w s (i + 1 + v)) =
     rw (pow-suc, mul_comm (256 ^ v) 256, mul_assoc) in
     rw (suc-add, number_split v w s (i + 1), e, p) (omega arith)
-
-pub power_pos : (n : ℕ) → 0 < 256 ^ n
-power_pos zero = omega arith
-power_pos (suc n) = rw pow-suc (omega (arith, power_pos n))
-
--- a turn of the loop that reads a number of w bytes from its last byte down: it stood at i, and stands at the byte ahead
-module _ (w i : ℕ) (low : 0 < i) (high : i ≤ w) where
-  one_more : w - (i - 1) ≡ suc (w - i)
-  one_more = omega arith
-
-  pub number_turn : (s : List ℕ) (at : ℕ) → number_at (w - (i - 1)) s (at + (i - 1)) ≡ byte_at s (at + (i - 1)) + 256 * number_at (w - i) s (at + i)
-  unfolding number_at
-  number_turn s at = let e : at + (i - 1) + 1 ≡ at + i = omega arith in rw (one_more, e)
-
-  pub power_turn : 256 ^ (w - (i - 1)) ≡ 256 ^ (w - i) * 256
-  power_turn = rw (one_more, pow-suc)
-
-  pub power_room : w ≤ 8 → 256 ^ (w - i) ≤ 256 ^ 7
-  power_room h = pow-le-pow_right (let z : 0 < 256 = omega arith in z) (let z : w - i ≤ 7 = omega arith in z)
 
 -- two places that hold the same bytes hold the same number
 pub number_same : (w : ℕ) (s t : List ℕ) (i j : ℕ) → ((k : ℕ) → k < w → byte_at s (i + k) ≡ byte_at t (j + k)) → number_at w s i ≡ number_at w t j

@@ -1,7 +1,6 @@
 -- Laws of bytes that are put at a place: what is read back, and what stays. Assumes nothing.
 use Rattle.std.proofs.Common.{◌≡◌, ℕ, ◌+◌, ◌-◌, ◌^◌, ◌<◌, ◌≤◌, ◌⊎◌, List, ◌++◌, length, take, drop, sym, refl, ap, ◌∙◌, ⊎_elim, append_assoc, arith, length-append, length-drop, take-append-drop, length-take-le, get_or-drop, get_or-take, drop-drop, take_at, get_or-append-add, ext_get_or, drop_at, le-leb}
 use lib.ListN.{get_or-append}
-use lib.Seq.{sets, sets-eq}
 use borrow.Author.Tests.{lt-leb}
 use borrow.Rule.Slice.PartMut.{put_mid, Post-is}
 use Rattle.below.proofs.Tests.{le_or_lt}
@@ -62,10 +61,6 @@ module _ (s : List ℕ) (i : ℕ) (bs : List ℕ) where
   number_put_apart w j apart =
       number_same w (put s i bs) s j j
       (λ k l. ⊎_elim (λ h. put_ahead (j + k) (omega arith)) (λ h. put_behind (j + k) (omega arith)) apart)
-
-  -- a run of stores, byte by byte, puts them
-  pub stores_put : i + length bs ≤ length s → sets s i bs ≡ put s i bs
-  stores_put h = sets-eq bs s i h ∙ sym (put_in h)
 
 -- the bytes that were put are a part of what they were put into; a part apart from them is as it was
 module _ (s : List ℕ) (i : ℕ) (bs : List ℕ) where

@@ -38,10 +38,6 @@ unfolding sums_of
 sums_fit b = summed_fits _ b 0 126 (omega arith) (omega arith)
 
 module _ (b : List ℕ) where
-  -- a block with its first sum, and with both
-  half_sealed : List ℕ
-  half_sealed = put b 504 (bytes_of 4 (sums_of b).first)
-
   pub sealed_is : length b ≡ 512 → sealed b ≡ put (put b 504 (bytes_of 4 (sums_of b).first)) 508 (bytes_of 4 (sums_of b).second)
   unfolding sealed
   sealed_is h = rw (eq-eqb _ _ h)

@@ -1,11 +1,17 @@
 -- Words summed by turns come to the sums of the words one by one. Assumes nothing.
-use Rattle.std.proofs.Common.{◌≡◌, ℕ, zero, suc, ◌+◌, ◌*◌, ◌%◌, ◌^◌, ◌<◌, List, get_or, set, replicate, sym, refl, ap, ◌∙◌, not-suc-le-zero, suc-mul, add-one, arith, length-set, get_or-set_other, get_or-set_same, below_more}
-use lib.ListN.{length-replicate}
+use Rattle.std.proofs.Common.{◌≡◌, ℕ, zero, suc, ◌+◌, ◌*◌, ◌%◌, ◌^◌, ◌<◌, List, [], ◌∷◌, ◌++◌, map, fold, take, drop, sym, refl, ap, ◌∙◌, suc-mul, add-one, not-suc-le-zero, arith, get_or, get_or-drop, get_or-take}
+use Rattle.std.proofs.lemmas.List.FromFn.{map-range_with_len_more}
+use Rattle.std.proofs.lemmas.List.Sums.{fold_push}
+use Rattle.std.specs.Int.{w32, from_le_bytes}
+use Rattle.std.specs.List.{range_with_len}
+use Rattle.std.specs.Simd.{first_chunks}
 use Rattle.block.specs.Bytes.{word_at}
-use Rattle.block.specs.Sums.{grown, summed}
+use Rattle.block.specs.Sums.{grown, summed, sums_of}
 use Rattle.block.specs.Code.Turns.{no_sums, turned, TurnsTo}
 use Rattle.block.specs.declared.Sums.{Sums}
-use Rattle.block.proofs.Sealing.{summed_more, summed_fits}
+use Rattle.block.proofs.Numbers.{number_same, number_part}
+use Rattle.block.proofs.Parts.{read_word}
+use Rattle.block.proofs.Sealing.{summed_same, summed_more, summed_fits}
 
 one : (t : Sums) (b : List ℕ) (k : ℕ) → summed t b k 1 ≡ grown t (word_at b k)
 unfolding summed
@@ -82,47 +88,46 @@ six_times x {two} {four} {all} a b c =
     let k : x + x + (x + x) + (x + x) ≡ 6 * x = omega arith in
     c ∙ rw (f, a, drop_both (x + x + (x + x)) (x + x), k) refl
 
--- a turn, as it is added up
-pub turn_is : (n : ℕ) (s t : Sums) {first own second : ℕ} → first ≡ (s.first + t.first) % 2 ^ 32 → own ≡ (n * s.first % 2 ^ 32 + t.second) % 2 ^ 32 →
-    second ≡ (s.second + own) % 2 ^ 32 → record { first = first; second = second } ≡ turned n s t
-turn_is n s t {first} {own} {second} e f g =
-    let h : second ≡ (s.second + n * s.first + t.second) % 2 ^ 32 = g ∙ rw (f, drop_left (n * s.first) t.second, drop_right s.second (n * s.first + t.second)) (add s.second (n * s.first) t.second) in
-    λ i. record { first = e i; second = h i }
+-- the words of a list that was cut off
+pub summed_behind : (s : Sums) (b : List ℕ) (a i n : ℕ) → summed s (drop a b) i n ≡ summed s b (a + i) n
+unfolding summed
+summed_behind s b a i zero = refl
+summed_behind s b a i (suc n) =
+    let w : word_at (drop a b) i ≡ word_at b (a + i) = number_same 4 (drop a b) b i (a + i) (λ k l. let e : a + i + k ≡ a + (i + k) = omega arith in rw e (get_or-drop a b (i + k) 0)) in
+    let e : a + (i + 4) ≡ a + i + 4 = omega arith in
+    rw (w, ← e) (summed_behind (grown s (word_at b (a + i))) b a (i + 4) n)
+
+-- words that were cut off, one behind another, and added to the sums s
+pub fold_words : (s : Sums) (b : List ℕ) (n : ℕ) → fold (λ s w. grown s (from_le_bytes w32 w)) s (first_chunks 4 n b) ≡ summed s b 0 n
+unfolding summed
+fold_words s b zero = refl
+fold_words s b (suc n) =
+    let e : from_le_bytes w32 (take 4 b) ≡ word_at b 0 = read_word (take 4 b) ∙ number_part 4 b 0 4 0 (omega arith) in
+    ap (λ w. fold (λ s w. grown s (from_le_bytes w32 w)) (grown s w) (first_chunks 4 n (drop 4 b))) e
+    ∙ fold_words (grown s (word_at b 0)) (drop 4 b) n ∙ summed_behind (grown s (word_at b 0)) b 4 0 n
+
+-- the running sums after the turns
+pub fold_turns : (b : List ℕ) (turns : List Sums) → TurnsTo b turns → fold (turned 6) no_sums turns ≡ sums_of b
+unfolding TurnsTo sums_of summed
+fold_turns b turns e = rw e (run 21)
   where
-    add : (a b c : ℕ) → (a + (b + c)) % 2 ^ 32 ≡ (a + b + c) % 2 ^ 32
-    add a b c = let e : a + (b + c) ≡ a + b + c = omega arith in rw e refl
+    own : ℕ → Sums
+    own k = summed no_sums b (k * 24) 6
 
--- the turns one by one: none yet, and one more
-module _ (b : List ℕ) where
-  pub turns_none : TurnsTo b 0 (replicate 21 0) (replicate 21 0)
-  turns_none =
-      record {
-        long_first = length-replicate {A = ℕ} 21 0;
-        long_second = length-replicate {A = ℕ} 21 0;
-        first_is = λ k l. absurd (not-suc-le-zero l);
-        second_is = λ k l. absurd (not-suc-le-zero l);
-      }
+    run : (n : ℕ) → fold (turned 6) no_sums (map own (range_with_len 0 n)) ≡ summed no_sums b 0 (n * 6)
+    run zero = refl
+    run (suc n) =
+        let at : n * 24 ≡ 0 + 4 * (n * 6) = omega arith in
+        let f : suc n * 6 ≡ n * 6 + 6 = omega arith in
+        let more : map own (range_with_len 0 (n + 1)) ≡ map own (range_with_len 0 n) ++ (own n ∷ []) = map-range_with_len_more own 0 n n (omega arith) in
+        ap (λ m. fold (turned 6) no_sums (map own (range_with_len 0 m))) (sym (add-one n)) ∙ ap (fold (turned 6) no_sums) more
+        ∙ fold_push (turned 6) no_sums (map own (range_with_len 0 n)) (own n) ∙ ap (λ t. turned 6 t (own n)) (run n)
+        ∙ rw (at, f) (turn_more b (n * 6) 6)
 
-  module _ {n : ℕ} {first second : List ℕ} (t : TurnsTo b n first second) (l : n < 21) where
-    pub turns_more : (s : Sums) → s ≡ summed no_sums b (n * 24) 6 → TurnsTo b (n + 1) (set first n s.first) (set second n s.second)
-    turns_more s e =
-        record {
-          long_first = length-set first n _ ∙ t.long_first;
-          long_second = length-set second n _ ∙ t.long_second;
-          first_is =
-              below_more (λ (k : ℕ). get_or (set first n s.first) k 0 ≡ (summed no_sums b (k * 24) 6).first) n
-              (λ k m. get_or-set_other first n k _ 0 (λ z. omega (arith, z)) ∙ t.first_is k m)
-              (get_or-set_same first n _ 0 (omega (arith, t.long_first)) ∙ ap (λ (x : Sums). x.first) e);
-          second_is =
-              below_more (λ (k : ℕ). get_or (set second n s.second) k 0 ≡ (summed no_sums b (k * 24) 6).second) n
-              (λ k m. get_or-set_other second n k _ 0 (λ z. omega (arith, z)) ∙ t.second_is k m)
-              (get_or-set_same second n _ 0 (omega (arith, t.long_second)) ∙ ap (λ (x : Sums). x.second) e);
-        }
-
-  -- the running sums after n turns, with turn n as it is read
-  pub turn_on : {first second : List ℕ} → TurnsTo b 21 first second → (n : ℕ) → n < 21 → (s : Sums) → s ≡ summed no_sums b 0 (n * 6) →
-      turned 6 s (record { first = get_or first n 0; second = get_or second n 0 }) ≡ summed no_sums b 0 ((n + 1) * 6)
-  turn_on t n l s e =
-      let at : n * 24 ≡ 0 + 4 * (n * 6) = omega arith in
-      let f : n * 6 + 6 ≡ (n + 1) * 6 = omega arith in
-      rw (e, t.first_is n l, t.second_is n l, at, ← f) (turn_more b (n * 6) 6)
+-- a turn, cut off
+pub turn_at : (b : List ℕ) (n k : ℕ) → k < n → summed no_sums (get_or (first_chunks 24 n b) k []) 0 6 ≡ summed no_sums b (k * 24) 6
+turn_at b zero k l = absurd (not-suc-le-zero l)
+turn_at b (suc n) zero l = summed_same no_sums (take 24 b) b 0 6 (λ j q. get_or-take 24 b j 0 (omega arith))
+turn_at b (suc n) (suc k) l =
+    let e : suc k * 24 ≡ 24 + k * 24 = omega arith in
+    rw e (turn_at (drop 24 b) n k (omega arith) ∙ summed_behind no_sums b 24 (k * 24) 6)

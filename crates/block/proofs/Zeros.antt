@@ -1,8 +1,11 @@
 -- Zero bytes in the middle of a list: run behind run, and as numbers. Assumes nothing.
-use Rattle.std.proofs.Common.{◌≡◌, ℕ, zero, suc, ◌+◌, ◌-◌, ◌<◌, ◌≤◌, true, false, ◌&&◌, eqb, List, length, take, drop, sym, refl, ◌∙◌, ⊎_elim, not-suc-le-zero, arith, length-drop, length-take-le, get_or-drop, get_or-take, eq-eqb, ne_eqb, eqb-true}
+use Rattle.std.proofs.Common.{◌≡◌, ℕ, zero, suc, ◌+◌, ◌-◌, ◌<◌, ◌≤◌, true, false, ◌&&◌, eqb, List, length, take, drop, sym, refl, ◌∙◌, ⊎_elim, not-suc-le-zero, suc-mul, ◌*◌, ◌/◌, Bool, take_all, arith, length-drop, length-take-le, get_or-drop, get_or-take, eq-eqb, eqb-true}
+use Rattle.std.proofs.Math.Nat.{div-mul-le_self, lt-div-mul-add}
 use Rattle.below.proofs.Search.{all_at, all_every}
 use Rattle.below.proofs.Tests.{bool_iff, and_both, both_and, le_or_lt, not_true_false, true_not_false}
 use Rattle.block.specs.Bytes.{byte_at, number_at, is_zero}
+use Rattle.std.specs.List.{list_all}
+use Rattle.std.specs.Simd.{first_chunks}
 use Rattle.block.specs.Code.Zeros.{zero_in}
 use Rattle.block.proofs.Zero.{zero_at, at_zero}
 
@@ -77,22 +80,6 @@ module _ (s : List ℕ) where
   pub part_lost : (a n : ℕ) → a + n ≤ length s → zero_in s a n ≡ false → is_zero s ≡ false
   part_lost a n l e = sym zero_all ∙ part_not 0 (length s) a n (omega arith) (omega arith) e
 
-  -- one byte
-  pub byte_zero : (i : ℕ) → byte_at s i ≡ 0 → zero_in s i 1 ≡ true
-  byte_zero i e = each_zero i 1 (λ k l. let f : i + k ≡ i = omega arith in rw f e)
-
-  pub byte_not : (i : ℕ) → (byte_at s i ≡ 0 → ⊥) → zero_in s i 1 ≡ false
-  byte_not i e =
-      not_true_false _
-      (λ t.
-      let f : i + 0 ≡ i = omega arith in
-      let l : 0 < 1 = omega arith in
-      let z : byte_at s (i + 0) ≡ 0 = zero_each i 1 t 0 l in
-      e (rw f at z))
-
-  pub zero_none : (a : ℕ) → zero_in s a 0 ≡ true
-  zero_none a = each_zero a 0 (λ k l. absurd (not-suc-le-zero l))
-
 -- a number is zero exactly where its bytes are
 number_each : (w : ℕ) (s : List ℕ) (i : ℕ) → number_at w s i ≡ 0 → EachZero s i w
 unfolding number_at
@@ -116,40 +103,6 @@ number_zero w s i =
     (λ t. each_zero s i w (number_each w s i (eqb-true _ _ t)))
     (λ t. eq-eqb _ _ (each_number w s i (zero_each s i w t)))
 
--- a number among zero bytes
-pub number_none : (w : ℕ) (s : List ℕ) (a n i : ℕ) → zero_in s a n ≡ true → a ≤ i → i + w ≤ a + n → number_at w s i ≡ 0
-number_none w s a n i e l h = eqb-true _ _ (number_zero w s i ∙ zero_part s a n i w l h e)
-
-module _ (s : List ℕ) (i : ℕ) {x : ℕ} (here : x ≡ number_at 8 s i) where
-  pub long_zero : x ≡ 0 → zero_in s i 8 ≡ true
-  long_zero e = sym (number_zero 8 s i) ∙ eq-eqb _ _ (sym here ∙ e)
-
-  pub long_not : (x ≡ 0 → ⊥) → zero_in s i 8 ≡ false
-  long_not e = sym (number_zero 8 s i) ∙ ne_eqb _ _ (λ t. e (here ∙ t))
-
--- eight numbers, one behind another
-pub eight_longs : (s : List ℕ) (i : ℕ) →
-    (eqb (number_at 8 s i) 0 && eqb (number_at 8 s (i + 8)) 0 && eqb (number_at 8 s (i + 16)) 0 && eqb (number_at 8 s (i + 24)) 0 && eqb (number_at 8 s (i + 32)) 0 && eqb (number_at 8 s (i + 40)) 0 && eqb (number_at 8 s (i + 48)) 0 && eqb (number_at 8 s (i + 56)) 0)
-    ≡ zero_in s i 64
-eight_longs s i =
-    rw (
-      number_zero,
-      number_zero,
-      number_zero,
-      number_zero,
-      number_zero,
-      number_zero,
-      number_zero,
-      number_zero,
-      zero_split s i 56 8,
-      zero_split s i 48 8,
-      zero_split s i 40 8,
-      zero_split s i 32 8,
-      zero_split s i 24 8,
-      zero_split s i 16 8,
-      zero_split s i 8 8,
-    )
-
 -- a part is zero where its bytes are, in their own places
 pub part_zero : (r : List ℕ) (a n : ℕ) → a + n ≤ length r → is_zero (take n (drop a r)) ≡ zero_in r a n
 part_zero r a n l =
@@ -165,3 +118,39 @@ part_zero r a n l =
 
     same : (k : ℕ) → k < n → byte_at part k ≡ byte_at r (a + k)
     same k h = get_or-take n (drop a r) k 0 h ∙ get_or-drop a r k 0
+
+-- chunks of n bytes, each zero
+module _ (n : ℕ) where
+  behind : (s : List ℕ) (m : ℕ) → zero_in (drop n s) 0 m ≡ zero_in s n m
+  behind s m =
+      bool_iff _ _
+      (λ t. each_zero s n m (λ k l. sym (same k) ∙ zero_each (drop n s) 0 m t k l))
+      (λ t. each_zero (drop n s) 0 m (λ k l. same k ∙ zero_each s n m t k l))
+    where
+      same : (k : ℕ) → byte_at (drop n s) (0 + k) ≡ byte_at s (n + k)
+      same k = let e : 0 + k ≡ k = omega arith in rw e (get_or-drop n s k 0)
+
+  pub chunks_zero : (k : ℕ) (s : List ℕ) → k * n ≤ length s → list_all is_zero (first_chunks n k s) ≡ zero_in s 0 (k * n)
+  chunks_zero zero s h = let e : 0 * n ≡ 0 = omega arith in rw e (sym (each_zero s 0 0 (λ k l. absurd (not-suc-le-zero l))))
+  chunks_zero (suc k) s h =
+      let e : suc k * n ≡ n + k * n = omega (arith, suc-mul k n) in
+      let first : is_zero (take n s) ≡ zero_in s 0 n = part_zero s 0 n (omega arith) in
+      let later : list_all is_zero (first_chunks n k (drop n s)) ≡ zero_in s n (k * n) = chunks_zero k (drop n s) (rw length-drop (omega arith)) ∙ behind s (k * n) in
+      let f : 0 + n ≡ n = omega arith in
+      rw (first, later, e, zero_split s 0 n (k * n), f) refl
+
+  -- by n at a time, and then the last n
+  last_part : (s : List ℕ) → n ≤ length s → is_zero (drop (length s - n) s) ≡ zero_in s (length s - n) n
+  last_part s h =
+      let e : take n (drop (length s - n) s) ≡ drop (length s - n) s = take_all n (drop (length s - n) s) (rw length-drop (omega arith)) in
+      rw e at (part_zero s (length s - n) n (omega arith))
+
+  module _ (s : List ℕ) (some : 0 < n) (h : n ≤ length s) {all : Bool} (e : all ≡ list_all is_zero (first_chunks n (length s / n) s)) where
+    front : all ≡ zero_in s 0 (length s / n * n)
+    front = e ∙ chunks_zero (length s / n) s (div-mul-le_self (length s) n)
+
+    pub last_left : all ≡ true → is_zero (drop (length s - n) s) ≡ is_zero s
+    last_left t = last_part s h ∙ zero_last s (length s / n * n) n (div-mul-le_self (length s) n) h (omega (arith, lt-div-mul-add {a = length s} {b = n} some)) (sym front ∙ t)
+
+    pub chunk_lost : all ≡ false → all ≡ is_zero s
+    chunk_lost f = f ∙ sym (part_lost s 0 (length s / n * n) (omega (arith, div-mul-le_self (length s) n)) (sym front ∙ f))

@@ -12,54 +12,39 @@ pub fn put_bytes(dst: &mut [u8], at: usize, src: &[u8])
     if dst.len() - src.len() < at {
         return;
     }
+    // Kept: by index, since `copy_from_slice` is compiled to a `memmove`, and the C library asks for `memcpy` and `memset` alone.
     for i in 0..src.len() {
         dst[at + i] = src[i];
     }
 }
 
 // Puts a 16-bit number at `at`.
+#[tactic(auto, unfolding(crate::specs::Bytes::bytes_of))]
 pub fn put_half(s: &mut [u8], at: usize, x: u16)
     ensures { s.new ≡ put s.old at (bytes_of 2 x) }
 {
-    let bytes = [(x % 256) as u8, (x / 256 % 256) as u8];
-    put_bytes(s, at, &bytes)
+    put_bytes(s, at, &x.to_le_bytes())
 }
 
 // Puts a 32-bit number at `at`.
+#[tactic(auto, unfolding(crate::specs::Bytes::bytes_of))]
 pub fn put_word(s: &mut [u8], at: usize, x: u32)
     ensures { s.new ≡ put s.old at (bytes_of 4 x) }
 {
-    let bytes = [
-        (x % 256) as u8,
-        (x / 256 % 256) as u8,
-        (x / 256 / 256 % 256) as u8,
-        (x / 256 / 256 / 256 % 256) as u8,
-    ];
-    put_bytes(s, at, &bytes)
+    put_bytes(s, at, &x.to_le_bytes())
 }
 
 // Puts a 64-bit number at `at`.
+#[tactic(auto, unfolding(crate::specs::Bytes::bytes_of))]
 pub fn put_long(s: &mut [u8], at: usize, x: u64)
     ensures { s.new ≡ put s.old at (bytes_of 8 x) }
 {
-    let bytes = [
-        (x % 256) as u8,
-        (x / 256 % 256) as u8,
-        (x / 256 / 256 % 256) as u8,
-        (x / 256 / 256 / 256 % 256) as u8,
-        (x / 256 / 256 / 256 / 256 % 256) as u8,
-        (x / 256 / 256 / 256 / 256 / 256 % 256) as u8,
-        (x / 256 / 256 / 256 / 256 / 256 / 256 % 256) as u8,
-        (x / 256 / 256 / 256 / 256 / 256 / 256 / 256 % 256) as u8,
-    ];
-    put_bytes(s, at, &bytes)
+    put_bytes(s, at, &x.to_le_bytes())
 }
 
 // Makes every byte zero.
 pub fn clear(s: &mut [u8])
     ensures { s.new ≡ replicate (length s.old) 0 }
 {
-    for i in 0..s.len() {
-        s[i] = 0;
-    }
+    s.fill(0);
 }

@@ -6,10 +6,10 @@ ghost use Rattle.std.specs.Prelude.{IfOk, take, length, ◌<◌};
 ghost use Rattle.std.specs.Io.{ReadsAtMost};
 ghost use Rattle.std.specs.Io.KnownBytes.{Consumes, IsAtEnd};
 
-use day::{Date, Day, Shown, date_of};
+use day::{Day, date_of};
 use plan::{block_of, doses_of, end_of, first_of, is_period};
-use refusal::Refusal;
-use split::{Parted, split};
+use refusal::refusal_in;
+use split::split;
 use std::io::Read;
 use std::process::ExitCode;
 use std::{fmt, io};
@@ -21,16 +21,10 @@ struct Written(Day);
 impl fmt::Display for Written {
     fn fmt<W: fmt::Write>(&self, f: &mut fmt::Formatter<W>) -> fmt::Result {
         match date_of(self.0) {
-            Shown::As(date) => write_date(f, date),
-            Shown::NoDay => write!(f, "open"),
+            Some(date) => write!(f, "{date}"),
+            None => write!(f, "open"),
         }
     }
-}
-
-// The month and the day of the month have two digits.
-fn write_date<W: fmt::Write>(f: &mut fmt::Formatter<W>, date: Date) -> fmt::Result {
-    let Date { year, month, day } = date;
-    write!(f, "{year}-{month:02}-{day:02}")
 }
 
 // "list, first day, last day or "open", dose records"
@@ -43,10 +37,8 @@ fn write_period(out: &impl Print, list: &str, part: &[u8], b: u8) -> io::Result<
 }
 
 fn write_part(out: &impl Print, list: &str, part: &[u8]) -> io::Result<()> {
-    for b in 0..64u8 {
-        if is_period(part, b) {
-            write_period(out, list, part, b)?;
-        }
+    for b in (0..64).filter(|b| is_period(part, *b)) {
+        write_period(out, list, part, b)?;
     }
     Ok(())
 }
@@ -56,26 +48,22 @@ fn first_bytes(buffer: &[u8], n: u32) -> &[u8] {
     buffer.get(..n as usize).unwrap_or(buffer)
 }
 
-fn write_verdict(out: &impl Print, number: u8, place: u8) -> io::Result<()> {
-    println!(out; "verdict {number} {place}")
-}
-
 // Judges and splits a plan, and writes what comes of it.
 fn answer(out: &impl Print, plan: &[u8]) -> io::Result<()> {
     let mut fixed = [0u8; 32768];
     let mut need = [0u8; 32768];
-    match split(plan, &mut fixed, &mut need) {
-        Parted::Refused(Refusal { number, place }) => write_verdict(out, number, place),
-        Parted::Parts(lengths) => {
-            write_verdict(out, 0, 255)?;
-            write_part(out, "fixed", first_bytes(&fixed, lengths.fixed))?;
-            write_part(out, "need", first_bytes(&need, lengths.need))
-        }
+    let parts = split(plan, &mut fixed, &mut need);
+    println!(out; "verdict {}", refusal_in(parts))?;
+    if let Ok(lengths) = parts {
+        write_part(out, "fixed", first_bytes(&fixed, lengths.fixed))?;
+        write_part(out, "need", first_bytes(&need, lengths.need))?;
     }
+    Ok(())
 }
 
 // Reads until the input ends or the buffer is full, and gives how many bytes now stand at the buffer's start: those that came, in
 // their order and none left out. There are fewer than the buffer has room for only where the input ended.
+// Kept: a loop of reads, since with std's `copy` in its place none of the three clauses was proved.
 fn read_input<R: Read>(input: &mut R, buffer: &mut [u8]) -> io::Result<usize>
     ensures within { ReadsAtMost result buffer.new }
     ensures bytes { IfOk result (λ n. Consumes (R.remaining input.old) (R.remaining input.new) (take n buffer.new)) }

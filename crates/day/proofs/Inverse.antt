@@ -4,9 +4,7 @@ use mathlib.Core.Path.{◌≡◌, refl, sym, ◌∙◌}
 use mathlib.Core.Bool.{true}
 use native.Mathlib.Omega.{arith}
 use Rattle.day.specs.declared.Date.{Date}
-use Rattle.day.specs.declared.Named.TheVariants.{On}
-use Rattle.day.specs.declared.Shown.{Shown}
-use Rattle.day.specs.declared.Shown.TheVariants.{As, NoDay}
+use Rattle.std.specs.Prelude.{Option, Some, None}
 use Rattle.day.specs.Calendar.{is_leap, before, year_start, is_date, number_of}
 use Rattle.day.specs.Days.{last_number, named_by, Shows}
 use Rattle.day.proofs.Steps.{In, rises, alone, within}
@@ -55,28 +53,28 @@ last_date d h =
     omega (arith, start_last, rises year_start start_step (d.year - 2000 + 1) 200 (omega arith))
 
 -- what `date_of` may answer is one thing
-pub shows_one : (n : ℕ) (r s : Shown) → Shows n r → Shows n s → r ≡ s
-shows_one n (As c) (As d) h k = let e = one_date h.0 k.0 (h.1 ∙ sym k.1) in rw e
-shows_one n (As c) NoDay h k = absurd (omega (arith, last_date c h.0))
-shows_one n NoDay (As d) h k = absurd (omega (arith, last_date d k.0))
-shows_one n NoDay NoDay h k = refl
+pub shows_one : (n : ℕ) (r s : Option Date) → Shows n r → Shows n s → r ≡ s
+shows_one n (Some c) (Some d) h k = let e = one_date h.0 k.0 (h.1 ∙ sym k.1) in rw e
+shows_one n (Some c) None h k = absurd (omega (arith, last_date c h.0))
+shows_one n None (Some d) h k = absurd (omega (arith, last_date d k.0))
+shows_one n None None h k = refl
 
 -- from a day to its date and back
-pub there : (n : ℕ) (d : Date) → Shows n (As d) → named_by d ≡ On (record { number = n })
+pub there : (n : ℕ) (d : Date) → Shows n (Some d) → named_by d ≡ Some (record { number = n })
 there n d h = rw (h.0, h.1)
 
 -- from a date to its day and back
-pub back : (d : Date) (r : Shown) → is_date d ≡ true → Shows (number_of d) r → r ≡ As d
-back d r h k = shows_one (number_of d) r (As d) k (h, refl)
+pub back : (d : Date) (r : Option Date) → is_date d ≡ true → Shows (number_of d) r → r ≡ Some d
+back d r h k = shows_one (number_of d) r (Some d) k (h, refl)
 
 in_month : {n k m : ℕ} → k < 200 → year_start k ≤ n → m < 12 → In (before (is_leap (2000 + k))) (n - year_start k) m →
-    (d : Date) × Shows n (As d)
+    (d : Date) × Shows n (Some d)
 in_month h a l b =
     let i = inside refl refl l b.0 b.1 in
     (_, (inside_date h i, inside_number h i ∙ omega arith))
 
 -- each day has a date
-pub some_date : (n : ℕ) → n ≤ last_number → (d : Date) × Shows n (As d)
+pub some_date : (n : ℕ) → n ≤ last_number → (d : Date) × Shows n (Some d)
 some_date n h =
     let w = within year_start start_step n 200 (omega (arith, start_zero)) (omega (arith, start_last)) in
     let leap = is_leap (2000 + w.0) in

@@ -9,7 +9,7 @@ use Rattle.below.specs.Below.{sum_below}
 use Rattle.below.proofs.Tests.{and_both, both_and, not_true_false}
 use Rattle.below.proofs.Total.{sum_zero, sum_more}
 use Rattle.day.specs.declared.Date.{Date}
-use Rattle.day.specs.declared.Named.TheVariants.{On, NoDate}
+use Rattle.std.specs.Prelude.{Some, None}
 use Rattle.day.specs.Days.{named_by}
 use Rattle.day.specs.Calendar.{is_leap, months, before, year_length, year_start, is_date, number_of}
 use Rattle.day.specs.Code.Inside.{Inside}
@@ -81,10 +81,10 @@ is_date_lem f =
     (le-leb _ _ f.day_to)
 
 -- the answer for a date, and for what is none
-pub named : {d : Date} {n : ℕ} → Facts d → n ≡ number_of d → On (record { number = n }) ≡ named_by d
+pub named : {d : Date} {n : ℕ} → Facts d → n ≡ number_of d → Some (record { number = n }) ≡ named_by d
 named f e = rw (is_date_lem f, e)
 
-pub not_named : {d : Date} → (Facts d → ⊥) → NoDate ≡ named_by d
+pub not_named : {d : Date} → (Facts d → ⊥) → None ≡ named_by d
 not_named n = rw (not_true_false _ (λ e. n (facts e)))
 
 -- the month's length, by what the code reads before it and behind it

@@ -1,7 +1,7 @@
 -- The code's table of the days before each month is right, and laws of `before` for any number of months. Assumes nothing.
 use Prim.Native.Nat.{ℕ, zero, suc, ◌+◌, ◌-◌, ◌≤◌, ◌<◌}
 use mathlib.Core.Path.{◌≡◌, refl}
-use mathlib.Core.Bool.{Bool, true, false, cond}
+use mathlib.Core.Bool.{Bool, true, false}
 use mathlib.Core.List.{List, [], ◌∷◌}
 use mathlib.Core.Logic.{⊎_elim}
 use native.Mathlib.Nat.{eq-or-lt_of_le}
@@ -10,6 +10,7 @@ use native.Mathlib.Numerals.{add-one}
 use lib.Dec.{eqb, leb}
 use lib.ListN.{get_or, get_or-eq_default}
 use borrow.Author.Tests.{eqb-true, leb-true}
+use Rattle.std.specs.Int.{from_bool}
 use Rattle.below.specs.Below.{sum_below, all_below}
 use Rattle.below.proofs.Tests.{le_or_lt}
 use Rattle.below.proofs.Search.{all_at_2}
@@ -30,12 +31,12 @@ in_rows p e false m h = all_at_2 (λ i. p (eqb i 1)) 2 12 e 0 m (omega arith) h
 in_rows p e true m h = all_at_2 (λ i. p (eqb i 1)) 2 12 e 1 m (omega arith) h
 
 module _ (leap : Bool) where
-  pub table_right : {row m : ℕ} → row ≡ cond leap 1 0 → m < 12 → get_or (get_or table row []) m 0 ≡ before leap m
+  pub table_right : {row m : ℕ} → row ≡ from_bool leap → m < 12 → get_or (get_or table row []) m 0 ≡ before leap m
   unfolding before months sum_below all_below
   table_right e h =
       rw e
       (eqb-true _ _
-      (in_rows (λ leap m. eqb (get_or (get_or table (cond leap 1 0) []) m 0) (before leap m)) refl leap _ h))
+      (in_rows (λ leap m. eqb (get_or (get_or table (from_bool leap) []) m 0) (before leap m)) refl leap _ h))
 
   -- a month has a day
   pub month_some : (m : ℕ) → m < 12 → 1 ≤ get_or (months leap) m 0
@@ -56,7 +57,7 @@ module _ (leap : Bool) where
   before_month m h = let e : m - 1 + 1 ≡ m = omega arith in rw e at (before_more (m - 1))
 
   -- the year's end is not in the table: December has 31
-  pub table_end : {row : ℕ} → row ≡ cond leap 1 0 → get_or (get_or table row []) 11 0 + 31 ≡ before leap 12
+  pub table_end : {row : ℕ} → row ≡ from_bool leap → get_or (get_or table row []) 11 0 + 31 ≡ before leap 12
   unfolding months
   table_end e = omega (arith, before_more 11, table_right {m = 11} e (omega arith))
 

@@ -9,7 +9,7 @@ use borrow.Author.Rules.{rules}
 use borrow.Author.Tests.{lt-ltb, le-ltb}
 use Rattle.below.proofs.Tests.{le_or_lt}
 use Rattle.day.specs.declared.Date.{Date}
-use Rattle.day.specs.declared.Shown.TheVariants.{As}
+use Rattle.std.specs.Prelude.{Some}
 use Rattle.day.specs.Calendar.{is_leap, before, year_start, is_date, number_of}
 use Rattle.day.specs.Days.{first_number, last_number, Shows}
 use Rattle.day.proofs.Months.{month_some, before_zero, before_month}
@@ -26,7 +26,7 @@ unfolding number_of
 first_number_lem = omega (arith, start_zero, before_zero (is_leap 2000))
 
 module _ (d : Date) (f : Facts d) where
-  next_day : d.day < month_length d → Shows (number_of d + 1) (As (ymd d.year d.month (d.day + 1)))
+  next_day : d.day < month_length d → Shows (number_of d + 1) (Some (ymd d.year d.month (d.day + 1)))
   unfolding number_of
   next_day l = (is_date_lem (search rules), omega arith)
 
@@ -35,14 +35,14 @@ module _ (d : Date) (f : Facts d) where
     upto : before (is_leap d.year) d.month ≡ before (is_leap d.year) (d.month - 1) + d.day
     upto = omega (arith, before_month (is_leap d.year) d.month f.month_from)
 
-    next_month : d.month < 12 → Shows (number_of d + 1) (As (ymd d.year (d.month + 1) 1))
+    next_month : d.month < 12 → Shows (number_of d + 1) (Some (ymd d.year (d.month + 1) 1))
     unfolding number_of
     next_month m =
         let some = month_some (is_leap d.year) (d.month + 1 - 1) (omega arith) in
         let e : d.month + 1 - 1 ≡ d.month = omega arith in
         (is_date_lem (search rules), rw e (omega (arith, upto)))
 
-    next_year : 12 ≤ d.month → number_of d < last_number → Shows (number_of d + 1) (As (ymd (d.year + 1) 1 1))
+    next_year : 12 ≤ d.month → number_of d < last_number → Shows (number_of d + 1) (Some (ymd (d.year + 1) 1 1))
     unfolding number_of
     next_year m h =
         let e : d.month ≡ 12 = omega arith in

@@ -1,10 +1,7 @@
 -- The days of the calendar, the open mark, and what each conversion answers.
-use Rattle.std.specs.Prelude.{ℕ, ◌<◌, ◌≡◌, Bool, true, cond, not, ◌||◌, eqb, leb, ltb}
+use Rattle.std.specs.Prelude.{ℕ, ◌<◌, ◌≡◌, Bool, true, cond, not, ◌||◌, eqb, leb, ltb, Option, Some, None}
 use Rattle.day.specs.declared.Date.{Date}
-use Rattle.day.specs.declared.Named.{Named}
-use Rattle.day.specs.declared.Named.TheVariants.{On, NoDate}
-use Rattle.day.specs.declared.Shown.{Shown}
-use Rattle.day.specs.declared.Shown.TheVariants.{As, NoDay}
+use Rattle.day.specs.declared.Day.{Day}
 use Rattle.day.specs.Calendar.{is_date, number_of}
 
 -- "0 is 2000-01-01"
@@ -33,10 +30,10 @@ abbrev pub is_no_span : ℕ → ℕ → Bool
 is_no_span first end = not (is_day first) || not (is_day end || eqb end open_mark) || ltb (closed_day end) first
 
 -- the day that a date names: its own, or none where it is no date of the calendar
-abbrev pub named_by : Date → Named
-named_by d = cond (is_date d) (On (record { number = number_of d })) NoDate
+abbrev pub named_by : Date → Option Day
+named_by d = cond (is_date d) (Some (record { number = number_of d })) None
 
 -- the date that a day shows as: the one whose number it is, or none where it is no day of the calendar
-abbrev pub Shows : ℕ → Shown → Type 0
-Shows n (As d) = (is_date d ≡ true) × (number_of d ≡ n)
-Shows n NoDay = last_number < n
+abbrev pub Shows : ℕ → Option Date → Type 0
+Shows n (Some d) = (is_date d ≡ true) × (number_of d ≡ n)
+Shows n None = last_number < n

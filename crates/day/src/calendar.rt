@@ -1,11 +1,11 @@
 // The two conversions, over one table.
-ghost use Rattle.std.specs.Prelude.{◌≡◌, ◌≤◌, ◌<◌};
-ghost use Rattle.day.specs.Calendar.{year_length, year_start};
+ghost use Rattle.std.specs.Prelude.{◌≡◌, ◌+◌, ◌≤◌, ◌<◌};
+ghost use Rattle.day.specs.Calendar.{before, year_length, year_start};
 ghost use Rattle.day.specs.Days.{named_by, Shows};
 ghost use Rattle.day.specs.Code.Inside.{Inside};
 
 use crate::table::{days_before, is_leap, year_length};
-use crate::{Date, Day, Named, Shown};
+use crate::{Date, Day};
 
 // The day on which the year 2000 + k begins.
 fn year_start(k: u32) -> u32
@@ -19,73 +19,58 @@ fn year_start(k: u32) -> u32
     start
 }
 
+// The month of the day `rest` of a year, both counted from 0: the first that ends behind the day.
+fn month_of(leap: bool, rest: u32) -> usize
+    requires { rest < before leap 12 }
+    ensures { (result < 12) × (before leap result ≤ rest) × (rest < before leap (result + 1)) }
+{
+    (0..11)
+        .find(|m| rest < days_before(leap, *m + 1))
+        .unwrap_or(11)
+}
+
 // The date of the day `rest` of a year, counted from 0.
 fn in_year(year: u32, rest: u32) -> Date
     requires { rest < year_length year }
     ensures { Inside year rest result }
 {
     let leap = is_leap(year);
-    for m in 0..11usize {
-        if rest < days_before(leap, m + 1) {
-            return Date {
-                year,
-                month: m as u32 + 1,
-                day: rest - days_before(leap, m) + 1,
-            };
-        }
-    }
+    let m = month_of(leap, rest);
     Date {
         year,
-        month: 12,
-        day: rest - days_before(leap, 11) + 1,
+        month: m as u32 + 1,
+        day: rest - days_before(leap, m) + 1,
     }
 }
 
-// The date of a day. It counts through the years.
-pub fn date_of(day: Day) -> Shown
+// The date of a day, or none where it is no day of the calendar. It counts through the years.
+pub fn date_of(day: Day) -> Option<Date>
     ensures { Shows day.number result }
 {
     let mut rest = day.number;
-    for k in 0..200u32 {
-        let length = year_length(2000 + k);
+    for year in 2000..2200 {
+        let length = year_length(year);
         if rest < length {
-            return Shown::As(in_year(2000 + k, rest));
+            return Some(in_year(year, rest));
         }
         rest -= length;
     }
-    Shown::NoDay
+    None
 }
 
-// The day of a date.
-pub fn day_of(date: Date) -> Named
+// The day of a date, or none where it is no date of the calendar.
+pub fn day_of(date: Date) -> Option<Day>
     ensures { result ≡ named_by date }
 {
-    let year = date.year;
-    let month = date.month;
-    let day = date.day;
-    if year < 2000 {
-        return Named::NoDate;
-    }
-    if 2199 < year {
-        return Named::NoDate;
-    }
-    if month < 1 {
-        return Named::NoDate;
-    }
-    if 12 < month {
-        return Named::NoDate;
-    }
-    if day < 1 {
-        return Named::NoDate;
+    let Date { year, month, day } = date;
+    if !(2000..=2199).contains(&year) | !(1..=12).contains(&month) {
+        return None;
     }
     let leap = is_leap(year);
-    let m = (month - 1) as usize;
-    let before = days_before(leap, m);
-    let behind = days_before(leap, m + 1);
-    if behind - before < day {
-        return Named::NoDate;
+    let before = days_before(leap, month as usize - 1);
+    let length = days_before(leap, month as usize) - before;
+    if !(1..=length).contains(&day) {
+        return None;
     }
-    Named::On(Day {
-        number: year_start(year - 2000) + before + (day - 1),
-    })
+    Some(Day::new(year_start(year - 2000) + before + (day - 1)))
 }

@@ -8,33 +8,20 @@ ghost use Rattle.std.specs.Prelude.{◌≡◌, eqb};
 ghost use Rattle.day.specs.Days.{first_number, last_number, open_mark, is_day, closed_day, is_no_span};
 
 pub use calendar::{date_of, day_of};
+use std::fmt;
 
 // A day by its number, or the open mark.
-#[derive(Clone, Copy)]
+#[derive(Clone, Copy, Debug, PartialEq, Eq, PartialOrd, Ord)]
 pub struct Day {
     pub number: u32,
 }
 
 // A day by its year, its month from 1 and its day of the month from 1.
-#[derive(Clone, Copy)]
+#[derive(Clone, Copy, Debug, PartialEq, Eq, PartialOrd, Ord)]
 pub struct Date {
     pub year: u32,
     pub month: u32,
     pub day: u32,
-}
-
-// The day that a date names.
-#[derive(Clone, Copy)]
-pub enum Named {
-    On(Day),
-    NoDate,
-}
-
-// The date that a day shows as.
-#[derive(Clone, Copy)]
-pub enum Shown {
-    As(Date),
-    NoDay,
 }
 
 impl Day {
@@ -72,26 +59,21 @@ impl Day {
     pub fn is_open(self) -> bool
         ensures { result ≡ eqb self.number open_mark }
     {
-        let open = Self::OPEN;
-        self.number == open.number
+        self == Self::OPEN
     }
 
     // Is it a day of the calendar?
     pub fn is_day(self) -> bool
         ensures { result ≡ is_day self.number }
     {
-        let last = Self::LAST;
-        self.number <= last.number
+        self <= Self::LAST
     }
 
     // The day that an open end counts as: the calendar's last. Any other day is itself.
     pub fn closed(self) -> Self
         ensures { result.number ≡ closed_day self.number }
     {
-        if self.is_open() {
-            return Self::LAST;
-        }
-        self
+        if self.is_open() { Self::LAST } else { self }
     }
 }
 
@@ -109,5 +91,13 @@ impl Date {
         ensures { (result.year ≡ year) × (result.month ≡ month) × (result.day ≡ day) }
     {
         Self { year, month, day }
+    }
+}
+
+// The year, and two digits each of the month and of the day of the month.
+impl fmt::Display for Date {
+    fn fmt<W: fmt::Write>(&self, f: &mut fmt::Formatter<W>) -> fmt::Result {
+        let Self { year, month, day } = *self;
+        write!(f, "{year}-{month:02}-{day:02}")
     }
 }

@@ -1,5 +1,5 @@
 // The months: "The days before each month stand in a table of two rows, common and leap years."
-ghost use Rattle.std.specs.Prelude.{◌≡◌, cond, ◌≤◌, ◌<◌};
+ghost use Rattle.std.specs.Prelude.{◌≡◌, ◌≤◌};
 ghost use Rattle.day.specs.Calendar.{is_leap, before, year_length};
 
 const BEFORE: [[u32; 12]; 2] = [
@@ -8,28 +8,19 @@ const BEFORE: [[u32; 12]; 2] = [
 ];
 
 // Is it a leap year?
+#[tactic(auto, unfolding(crate::specs::Calendar::is_leap))]
 pub fn is_leap(year: u32) -> bool
     ensures { result ≡ is_leap year }
 {
-    (year % 4 == 0) & (!(year % 100 == 0) | (year % 400 == 0))
-}
-
-// The table's row for common and for leap years.
-fn row_of(leap: bool) -> usize
-    ensures { (result ≡ cond leap 1 0) × (result < 2) }
-{
-    if leap { 1 } else { 0 }
+    (year % 4 == 0) & ((year % 100 != 0) | (year % 400 == 0))
 }
 
 // The days of the year's first m months. December is the last, and has 31.
 pub fn days_before(leap: bool, m: usize) -> u32
     ensures { (result ≡ before leap m) × (result ≤ 366) }
 {
-    let row = row_of(leap);
-    if m < 12 {
-        return BEFORE[row][m];
-    }
-    BEFORE[row][11] + 31
+    let row = BEFORE[usize::from(leap)];
+    if m < 12 { row[m] } else { row[11] + 31 }
 }
 
 // The days of a year.

@@ -1,9 +1,10 @@
 // A day's doses, by document 01: which doses of a plan apply on a day, and their four sums.
 #![tactic(auto)]
 
-ghost use Rattle.std.specs.Prelude.{◌≡◌, ◌-◌, ◌<◌, min};
+ghost use Rattle.std.specs.Prelude.{◌≡◌};
+ghost use Rattle.std.specs.List.{FoldsTo};
 ghost use Rattle.plan.specs.Fields.{header_of};
-ghost use Rattle.doses.specs.Doses.{covers, position_of, applies, doses_of_period, grown, added, added_all, day_sums};
+ghost use Rattle.doses.specs.Doses.{covers, position_of, applies, doses_of_period, doses_on, grown, added, day_sums};
 
 use plan::{
     Dose, block_of, dose_in, doses_of, first_of, interval_of, is_marked, kind_of, last_of, upper_of,
@@ -13,34 +14,17 @@ use plan::{
 pub fn is_covering(plan: &[u8], day: u32, b: u8) -> bool
     ensures { result ≡ covers plan.now day b }
 {
-    let block = block_of(plan, b as u16);
-    if kind_of(block) != 2 {
-        return false;
-    }
-    if day < first_of(block) {
-        return false;
-    }
-    day <= last_of(block)
-}
-
-fn wide(x: u32) -> u64
-    ensures { (result ≡ x) × (result < 4294967296) }
-{
-    x as u64
-}
-
-fn days_since(first: u32, day: u32) -> u32
-    ensures { result ≡ day - first }
-{
-    if first <= day { day - first } else { 0 }
+    let block = block_of(plan, u16::from(b));
+    kind_of(block) == 2 && first_of(block) <= day && day <= last_of(block)
 }
 
 // The position of a day in the period whose first block is r.
+#[tactic(auto, unfolding(crate::specs::Doses::position_of))]
 pub fn position_of(r: &[u8], day: u32) -> u64
     ensures { result ≡ position_of (header_of r.now) day }
 {
-    let since = wide(days_since(first_of(r), day));
-    let interval = interval_of(r) as u64;
+    let since = u64::from(day.saturating_sub(first_of(r)));
+    let interval = u64::from(interval_of(r));
     if interval == 0 {
         return since + 1;
     }
@@ -51,68 +35,63 @@ pub fn position_of(r: &[u8], day: u32) -> u64
 pub fn is_applied(position: u64, d: Dose) -> bool
     ensures { result ≡ applies position d }
 {
-    let day = d.day as u64;
+    let day = u64::from(d.day);
     (day == position) | ((day == 0) & (position == 1))
 }
 
 fn row_with(row: [u64; 2], d: Dose) -> [u64; 2]
     ensures { result ≡ grown row d }
 {
-    [
-        std::num::wrapping_add_u64(row[0], d.low),
-        std::num::wrapping_add_u64(row[1], upper_of(d)),
-    ]
+    [row[0].wrapping_add(d.low), row[1].wrapping_add(upper_of(d))]
 }
 
 // The four sums with a dose more.
+#[tactic(auto, unfolding(crate::specs::Doses::added))]
 fn sums_with(sums: [[u64; 2]; 2], d: Dose) -> [[u64; 2]; 2]
     ensures { result ≡ added sums d }
 {
     let mut next = sums;
     if is_marked(d) {
-        let row = row_with(sums[1], d);
-        next[1] = row;
-        return next;
+        next[1] = row_with(sums[1], d);
+    } else {
+        next[0] = row_with(sums[0], d);
     }
-    let row = row_with(sums[0], d);
-    next[0] = row;
     next
 }
 
-// The sums with the doses of the period at block b.
-fn with_period(plan: &[u8], day: u32, b: u8, sums: [[u64; 2]; 2]) -> [[u64; 2]; 2]
-    ensures { result ≡ added_all sums (doses_of_period plan.now day b) }
+// What `f` makes of a start and the doses of the period at block b on the day, one after the other.
+fn fold_period<S, F: Fn(S, Dose) -> S>(plan: &[u8], day: u32, b: u8, start: S, f: &F) -> S
+    requires { F.IsAlwaysCallable f.now }
+    ensures { FoldsTo (λ s d t. F.post f.now s d t) start (doses_of_period plan.now day b) result }
 {
-    let position = position_of(block_of(plan, b as u16), day);
-    let n = doses_of(plan, b);
-    let mut t = sums;
-    for j in 0..n {
+    let position = position_of(block_of(plan, u16::from(b)), day);
+    let mut state = start;
+    for j in 0..doses_of(plan, b) {
         let d = dose_in(plan, b, j);
         if is_applied(position, d) {
-            let u = sums_with(t, d);
-            t = u;
+            state = f(state, d);
         }
     }
-    t
+    state
 }
 
-fn least64(n: usize) -> u8
-    ensures { result ≡ min n 64 }
+// What `f` makes of a start and the doses of a day, one after the other.
+pub fn fold_doses<S, F: Fn(S, Dose) -> S>(plan: &[u8], day: u32, start: S, f: F) -> S
+    requires { F.IsAlwaysCallable f }
+    ensures { FoldsTo (λ s d t. F.post f s d t) start (doses_on plan.now day) result }
 {
-    if n < 64 { n as u8 } else { 64 }
+    let mut state = start;
+    for b in 0..(plan.len() / 512).min(64) as u8 {
+        if is_covering(plan, day, b) {
+            state = fold_period(plan, day, b, state, &f);
+        }
+    }
+    state
 }
 
 // The four sums of a day.
 pub fn day_sums(plan: &[u8], day: u32) -> [[u64; 2]; 2]
     ensures { result ≡ day_sums plan.now day }
 {
-    let n = least64(plan.len() / 512);
-    let mut t = [[0u64; 2]; 2];
-    for b in 0..n {
-        if is_covering(plan, day, b) {
-            let u = with_period(plan, day, b, t);
-            t = u;
-        }
-    }
-    t
+    fold_doses(plan, day, [[0; 2]; 2], sums_with)
 }

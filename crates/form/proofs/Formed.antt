@@ -1,4 +1,5 @@
 -- What the later rules count on: a plan that breaks none of rules 1 to 4. Assumes nothing.
+use Rattle.std.specs.Prelude.{Err, Ok}
 use Prim.Native.Nat.{ℕ, ◌≤◌, ◌<◌}
 use mathlib.Core.Bool.{true, false, not, ◌||◌}
 use mathlib.Core.List.{List}
@@ -18,20 +19,20 @@ use Rattle.plan.specs.Periods.{blocks_of, block_at, is_period}
 use Rattle.refusal.proofs.Order.{Passed, passed_lowest, rule_none}
 use Rattle.refusal.specs.Order.{lowest_block}
 use Rattle.refusal.specs.declared.Refusal.{Refusal}
+use Rattle.form.specs.Answers.{Form}
 use Rattle.form.specs.Form.{bad_length, sums_wrong, misplaced, days_out, doses_out, period_out, block_out, form_breaks, form_rule, form_of}
 use Rattle.form.specs.Code.Front.{broken_at}
-use Rattle.form.specs.declared.Form.TheVariants.{Right, Broken}
 use Rattle.form.proofs.Laws.{right_is}
 
 pub record Formed (limit : ℕ) (p : List ℕ) : Type 0 where
   pub long : bad_length limit p ≡ false
   pub passed : Passed (blocks_of p) (form_breaks p) 5
 
-not_both : {r : Refusal} → Broken r ≡ Right → ⊥
+not_both : {r : Refusal} → ◌≡◌ {A = Form} (Err r) (Ok tt) → ⊥
 not_both e = let z : ◌≡◌ {A = ℕ} 0 1 = cc in omega arith
 
 -- what `form_of` says where it says that all is right
-pub formed : (limit : ℕ) (p : List ℕ) → form_of limit p ≡ Right → Formed limit p
+pub formed : (limit : ℕ) (p : List ℕ) → form_of limit p ≡ Ok tt → Formed limit p
 unfolding form_of
 formed limit p e =
     ⊎_elim
@@ -117,7 +118,7 @@ module _ (limit : ℕ) (p : List ℕ) (long : bad_length limit p ≡ false)
     (sums : (b : ℕ) → b < blocks_of p → sums_right (block_at p b) ≡ true)
     (places : (b : ℕ) → b < blocks_of p → misplaced p b ≡ false)
     (ranges : (b : ℕ) → b < blocks_of p → block_out (block_at p b) ≡ false) where
-  pub right : form_of limit p ≡ Right
+  pub right : form_of limit p ≡ Ok tt
   right = sym (right_is limit p long (all_passed p sums places ranges))
 
 -- the three rules, asked of one block after another

@@ -1,4 +1,5 @@
 -- What rules 1 to 4 give the later rules. Assumes nothing.
+use Rattle.std.specs.Prelude.{Err, Ok}
 use Prim.Native.Nat.{ℕ, ◌*◌, ◌%◌, ◌≤◌, ◌<◌}
 use mathlib.Core.Bool.{false, not, ◌||◌}
 use mathlib.Core.List.{List}
@@ -17,7 +18,6 @@ use Rattle.refusal.specs.Order.{lowest_block}
 use Rattle.refusal.specs.Refusals.{rule_at}
 use Rattle.form.specs.Form.{bad_length, form_breaks, form_rule, form_of}
 use Rattle.form.specs.Code.Whole.{Whole}
-use Rattle.form.specs.declared.Form.TheVariants.{Right, Broken}
 
 -- rule 1
 pub whole : (limit : ℕ) (p : List ℕ) → limit < 65536 → bad_length limit p ≡ false → Whole p
@@ -49,15 +49,15 @@ none_ahead p k l =
 -- the answer, by what the search over the rules has shown
 module _ (limit : ℕ) (p : List ℕ) (long : bad_length limit p ≡ false) where
   pub broken_is : {k : ℕ} → k < 5 → Passed (blocks_of p) (form_breaks p) k → lowest_block (blocks_of p) (form_breaks p) k < blocks_of p →
-      Broken (rule_at k (lowest_block (blocks_of p) (form_breaks p) k)) ≡ form_of limit p
+      Err (rule_at k (lowest_block (blocks_of p) (form_breaks p) k)) ≡ form_of limit p
   unfolding form_of
   broken_is {k} l passed h =
       let e : form_rule p ≡ k = rule_is (blocks_of p) (form_breaks p) l passed h in
       rw (long, e, lt-ltb k 5 l)
 
-  pub right_by : form_rule p ≡ 5 → Right ≡ form_of limit p
+  pub right_by : form_rule p ≡ 5 → Ok tt ≡ form_of limit p
   unfolding form_of
   right_by e = rw (long, e)
 
-  pub right_is : Passed (blocks_of p) (form_breaks p) 5 → Right ≡ form_of limit p
+  pub right_is : Passed (blocks_of p) (form_breaks p) 5 → Ok tt ≡ form_of limit p
   right_is passed = right_by (rule_none (blocks_of p) (form_breaks p) (le_refl 5) passed)

@@ -4,3 +4,5 @@ pub mod Zeroed
 pub mod Formed
 pub mod Ranged
 pub mod Fronts
+pub mod Ranges
+mod Naming

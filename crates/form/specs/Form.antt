@@ -1,5 +1,5 @@
 -- Rules 1 to 4: the form of the bytes. Each definition says when the rule is broken.
-use Rattle.std.specs.Prelude.{ℕ, ◌+◌, ◌-◌, ◌*◌, ◌%◌, Bool, cond, not, ◌&&◌, ◌||◌, List, eqb, ltb, length, take, drop}
+use Rattle.std.specs.Prelude.{ℕ, ◌+◌, ◌-◌, ◌*◌, ◌%◌, Bool, cond, not, ◌&&◌, ◌||◌, List, eqb, ltb, length, take, drop, Err, Ok}
 use Rattle.below.specs.Below.{any_below}
 use Rattle.day.specs.Days.{is_no_span}
 use Rattle.block.specs.Bytes.{is_zero}
@@ -9,8 +9,7 @@ use Rattle.refusal.specs.Order.{lowest_rule, lowest_block}
 use Rattle.plan.specs.declared.Dose.{Dose}
 use Rattle.plan.specs.Fields.{kind_of, count_of, first_of, end_of, vka_of, record_at, dose_of}
 use Rattle.plan.specs.Periods.{blocks_of, block_at, is_period, is_continuation}
-use Rattle.form.specs.declared.Form.{Form}
-use Rattle.form.specs.declared.Form.TheVariants.{Right, Broken}
+use Rattle.form.specs.Answers.{Form}
 
 -- Rule 1: "length is 0, no multiple of 512, or above 16,384"; a part of a split plan has another limit
 abbrev pub bad_length : ℕ → List ℕ → Bool
@@ -90,5 +89,5 @@ form_rule p = lowest_rule 5 (blocks_of p) (form_breaks p)
 -- the first broken of rules 1 to 4, with its place, or none
 unfoldable pub form_of : ℕ → List ℕ → Form
 form_of limit p =
-    cond (bad_length limit p) (Broken (rule_at 1 0))
-    (cond (ltb (form_rule p) 5) (Broken (rule_at (form_rule p) (lowest_block (blocks_of p) (form_breaks p) (form_rule p)))) Right)
+    cond (bad_length limit p) (Err (rule_at 1 0))
+    (cond (ltb (form_rule p) 5) (Err (rule_at (form_rule p) (lowest_block (blocks_of p) (form_breaks p) (form_rule p)))) (Ok tt))

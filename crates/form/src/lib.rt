@@ -5,15 +5,7 @@ mod block_form;
 mod order;
 
 pub use order::form_of;
-use refusal::Refusal;
 
 pub const PLAN_LIMIT: u16 = 16384;
 
 pub const PART_LIMIT: u16 = 32768;
-
-// Rules 1 to 4 hold, or the first that is broken, with its place.
-#[derive(Clone, Copy)]
-pub enum Form {
-    Right,
-    Broken(Refusal),
-}

@@ -1,5 +1,6 @@
 -- Bytes that break none of rules 1 to 4 are what is laid out for the head and the periods that are read from them. Assumes
 -- nothing.
+use Rattle.std.specs.Prelude.{Ok}
 use Prim.Native.Nat.{ℕ, zero, suc, ◌+◌, ◌-◌, ◌*◌, ◌≤◌, ◌<◌}
 use mathlib.Core.Bool.{true, false, not, ◌&&◌, ◌||◌}
 use mathlib.Core.List.{List, [], ◌∷◌, ◌++◌, append_assoc}
@@ -19,7 +20,6 @@ use Rattle.block.specs.Sums.{sealed}
 use Rattle.form.proofs.Formed.{Formed, formed, summed, placed, ranged, head, head_no_period}
 use Rattle.form.proofs.Laws.{length_block}
 use Rattle.form.specs.Form.{goes_on, misplaced, head_out, block_out, form_of}
-use Rattle.form.specs.declared.Form.TheVariants.{Right}
 use Rattle.plan.specs.Fields.{kind_of, count_of}
 use Rattle.plan.specs.Periods.{blocks_of, block_at, is_period, is_continuation}
 use Rattle.layout.specs.Layout.{Written, head_bytes, period_block, body_of, laid_out}
@@ -186,10 +186,10 @@ module _ {limit : ℕ} {p : List ℕ} (bytes : AreBytes p) (small : limit ≤ 32
   formed_again = laid_is ∙ ap (λ (t : List ℕ). t ++ drop 512 p) head_block ∙ block_rest p 0
 
 -- laying out is the inverse of reading
-pub laid_again : (limit : ℕ) (p : List ℕ) → limit ≤ 32768 → AreBytes p → form_of limit p ≡ Right → laid_out (head_of p) (periods_of p) ≡ p
+pub laid_again : (limit : ℕ) (p : List ℕ) → limit ≤ 32768 → AreBytes p → form_of limit p ≡ Ok tt → laid_out (head_of p) (periods_of p) ≡ p
 laid_again limit p small bytes e = formed_again bytes small (formed limit p e)
 
 -- so the blocks of the periods that are read are those behind the head
-pub body_again : (limit : ℕ) (p : List ℕ) → limit ≤ 32768 → AreBytes p → form_of limit p ≡ Right → blocks_of p ≡ 1 + length (body_of (periods_of p))
+pub body_again : (limit : ℕ) (p : List ℕ) → limit ≤ 32768 → AreBytes p → form_of limit p ≡ Ok tt → blocks_of p ≡ 1 + length (body_of (periods_of p))
 body_again limit p small bytes e =
     ap blocks_of (sym (laid_again limit p small bytes e)) ∙ blocks_laid (head_of p) (periods_of p)

@@ -1,4 +1,5 @@
 -- What is read from bytes fits its bytes; and where they break none of rules 1 to 4, it is in its ranges. Assumes nothing.
+use Rattle.std.specs.Prelude.{Ok}
 use Prim.Native.Nat.{ℕ, ◌+◌, ◌*◌, ◌/◌, ◌%◌, ◌<◌}
 use mathlib.Core.Bool.{true, false, cond}
 use mathlib.Core.List.{List, [], ◌∷◌}
@@ -11,7 +12,6 @@ use Rattle.form.proofs.Formed.{Formed, formed, ranged, head}
 use Rattle.form.proofs.Laws.{whole}
 use Rattle.form.proofs.Ranged.{dose_ranged}
 use Rattle.form.specs.Form.{days_out, not_zero, doses_out, head_out, period_out, block_out, form_of}
-use Rattle.form.specs.declared.Form.TheVariants.{Right}
 use Rattle.plan.specs.Fields.{kind_of, vka_of, record_at, dose_of}
 use Rattle.plan.specs.Periods.{blocks_of, block_at, is_period, doses_of, dose_in}
 use Rattle.below.specs.Lists.{Every, Every.none, Every.more}
@@ -79,7 +79,7 @@ module _ (p : List ℕ) (bytes : AreBytes p) where
   pub periods_fit : AllFit (periods_of p)
   periods_fit = periods_all p (λ b l e. period_fits b)
 
-module _ (limit : ℕ) (p : List ℕ) (small : limit < 65536) (e : form_of limit p ≡ Right) where
+module _ (limit : ℕ) (p : List ℕ) (small : limit < 65536) (e : form_of limit p ≡ Ok tt) where
   f : Formed limit p
   f = formed limit p e
 

@@ -1,4 +1,5 @@
 -- What is laid out breaks none of rules 1 to 4. Assumes nothing.
+use Rattle.std.specs.Prelude.{Ok}
 use Prim.Native.Nat.{ℕ, zero, suc, ◌+◌, ◌-◌, ◌*◌, ◌%◌, ◌≤◌, ◌<◌}
 use mathlib.Core.Bool.{true, false, not}
 use mathlib.Core.List.{List, []}
@@ -15,7 +16,6 @@ use Rattle.block.specs.Bytes.{byte_at, bytes_of, is_zero}
 use Rattle.block.specs.Sums.{sealed}
 use Rattle.form.proofs.Formed.{right}
 use Rattle.form.specs.Form.{bad_length, goes_on, misplaced, days_out, not_zero, record_out, doses_out, head_out, period_out, continuation_out, block_out, form_of}
-use Rattle.form.specs.declared.Form.TheVariants.{Right}
 use Rattle.plan.specs.Fields.{count_of, record_at, dose_bytes}
 use Rattle.plan.specs.Periods.{blocks_of, block_at}
 use Rattle.plan.specs.declared.Dose.{Dose}
@@ -159,7 +159,7 @@ module _ (h : Head) (ws : List Written) where
       rw e (s b (omega (arith, blocks_laid h ws)))
 
   module _ (f : HeadFits h) (fs : AllFit ws) (g : Ranged h ws) where
-    pub laid_right : (limit : ℕ) → length (laid_out h ws) ≤ limit → form_of limit (laid_out h ws) ≡ Right
+    pub laid_right : (limit : ℕ) → length (laid_out h ws) ≤ limit → form_of limit (laid_out h ws) ≡ Ok tt
     laid_right limit fit =
         let p = laid_out h ws in
         let n = length_laid h ws in

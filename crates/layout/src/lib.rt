@@ -27,6 +27,7 @@ pub fn head_of(plan: &[u8]) -> Head
 }
 
 // The period at block b, without its doses.
+#[tactic(auto, unfolding(crate::specs::Reading::header_at))]
 pub fn header_at(plan: &[u8], b: u8) -> Header
     ensures { result ≡ header_at plan.now b }
 {

@@ -2,6 +2,7 @@
 use Rattle.std.proofs.Common.{◌≡◌, ℕ, ◌≤◌, Bool, true, false, cond, ◌&&◌, ◌||◌, eqb, refl, ⊎_elim, arith, eqb-true}
 use Rattle.below.proofs.Tests.{bool_cases, true_not_false, or_neither}
 use Rattle.plan.specs.Fields.{is_marked, upper_of}
+use Rattle.plan.specs.declared.Class.{Class}
 use Rattle.plan.specs.declared.Dose.{Dose}
 use Rattle.need.specs.Need.{Choice, unmarked, fixed_or_mixed, with_doses, need_or_mixed, by_low, by_upper, of_both, as_needed, no_choice, choice_of, chosen}
 
@@ -34,7 +35,7 @@ module _ (choice : ℕ) where
         (λ (t : eqb choice 1 ≡ false). let s : eqb choice 2 ≡ true = rw t at h in rw (t, s))
         (bool_cases (eqb choice 1))
 
-    pub stops_fixed : (class : ℕ) → (choice_of choice).stops class ≡ fixed_or_mixed class
+    pub stops_fixed : (class : Class) → (choice_of choice).stops class ≡ fixed_or_mixed class
     unfolding choice_of
     stops_fixed class =
         ⊎_elim
@@ -47,7 +48,7 @@ module _ (choice : ℕ) where
   unfolding choice_of
   counts_four x t = rw (eqb-true choice 4 t)
 
-  pub stops_four : (class : ℕ) → eqb choice 4 ≡ true → (choice_of choice).stops class ≡ need_or_mixed class
+  pub stops_four : (class : Class) → eqb choice 4 ≡ true → (choice_of choice).stops class ≡ need_or_mixed class
   unfolding choice_of
   stops_four class t = rw (eqb-true choice 4 t)
 
@@ -58,7 +59,7 @@ module _ (choice : ℕ) where
         let n = or_neither (eqb choice 1) (eqb choice 2) h in
         ⊎_elim (λ (t : eqb choice 3 ≡ true). rw (n.0, n.1, t)) (λ (t : eqb choice 3 ≡ false). rw (n.0, n.1, t, f)) (bool_cases (eqb choice 3))
 
-    pub stops_other : (class : ℕ) → (choice_of choice).stops class ≡ (eqb choice 3 && with_doses class)
+    pub stops_other : (class : Class) → (choice_of choice).stops class ≡ (eqb choice 3 && with_doses class)
     unfolding choice_of
     stops_other class =
         let n = or_neither (eqb choice 1) (eqb choice 2) h in

@@ -4,6 +4,8 @@ use Rattle.below.proofs.Search.{any_same}
 use Rattle.below.proofs.Tests.{bool_cases}
 use Rattle.plan.specs.Fields.{last_of}
 use Rattle.plan.specs.Periods.{blocks_of, block_at, is_period, class_of}
+use Rattle.plan.specs.declared.Class.{Class}
+use Rattle.plan.specs.declared.Class.TheVariants.{Empty}
 use Rattle.verdict.specs.Code.Ready.{Classed}
 use Rattle.need.specs.Need.{choice_of, stops_at, stop_day_by, has_stop_by, stop_day, has_stop}
 use Rattle.need.specs.Telling.{is_set, bits_from, bits_by, told_of, bits_in, is_told, told_day, any_told, Tells}
@@ -111,11 +113,11 @@ module _ (f : ℕ → Bool) where
 
 -- ---- those of a plan
 -- the bits by the classes that come with the verdict
-module _ {p cs : List ℕ} (k : Classed p cs) {x : Told} (e : x ≡ told_of cs p) where
+module _ {p : List ℕ} {cs : List Class} (k : Classed p cs) {x : Told} (e : x ≡ told_of cs p) where
   by_class : (choice b : ℕ) → b < blocks_of p → is_period p b ≡ true → is_set (bits_by choice cs p) b ≡ (choice_of choice).stops (class_of p b)
   by_class choice b l t =
       let z : 0 + b ≡ b = omega arith in
-      let h = bits_each (λ b. (choice_of choice).stops (get_or cs b 0)) b 0 (min (blocks_of p) 32) (omega (arith, k.few)) in
+      let h = bits_each (λ b. (choice_of choice).stops (get_or cs b Empty)) b 0 (min (blocks_of p) 32) (omega (arith, k.few)) in
       rw (z, k.entry b l t) at h
 
   told : (choice b : ℕ) → b < blocks_of p → is_period p b ≡ true → is_set (bits_in x choice) b ≡ (choice_of choice).stops (class_of p b)
@@ -154,8 +156,8 @@ module _ {choice : ℕ} {p : List ℕ} {bits : ℕ} (t : Tells choice p bits) wh
   told_day_lem = largest_same (blocks_of p) (λ b l. ap (λ (t : Bool). cond t (last_of (block_at p b)) 0) (told_stops b l))
 
 -- which blocks count by a choice, and the bits of those from b on
-abbrev pub counts : List ℕ → ℕ → ℕ → Bool
-counts classes choice b = (choice_of choice).stops (get_or classes b 0)
+abbrev pub counts : List Class → ℕ → ℕ → Bool
+counts classes choice b = (choice_of choice).stops (get_or classes b Empty)
 
-abbrev pub behind : List ℕ → List ℕ → ℕ → ℕ → ℕ
+abbrev pub behind : List ℕ → List Class → ℕ → ℕ → ℕ
 behind plan classes choice b = bits_from (counts classes choice) b (min (blocks_of plan) 32 - b)

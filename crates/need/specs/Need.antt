@@ -1,19 +1,21 @@
 -- What a choice says, what a day needs by it, and where it stops.
-use Rattle.std.specs.Prelude.{ℕ, Bool, true, false, cond, not, ◌&&◌, ◌||◌, List, ◌==◌, nat_le}
+use Rattle.std.specs.Prelude.{ℕ, Bool, true, false, cond, not, ◌&&◌, List, ◌==◌, nat_le}
 use Rattle.below.specs.Below.{any_below, largest_below}
 use Rattle.below.specs.Lists.{keep, sum_over}
 use Rattle.doses.specs.Doses.{doses_on, low_of}
 use Rattle.pause.specs.Pauses.{is_paused}
 use Rattle.pause.specs.declared.Pause.{Pause}
 use Rattle.plan.specs.Fields.{last_of, is_marked, upper_of}
-use Rattle.plan.specs.Periods.{blocks_of, block_at, is_period, empty, fixed, need, mixed, class_of}
+use Rattle.plan.specs.Periods.{blocks_of, block_at, is_period, class_of}
+use Rattle.plan.specs.Classes.{is_empty, has_fixed, has_need}
+use Rattle.plan.specs.declared.Class.{Class}
 use Rattle.plan.specs.declared.Dose.{Dose}
 
 -- what a choice says: which doses count, by which amount, and the periods of which classes set the stop day
 pub record Choice : Type 0 where
   pub counts : Dose → Bool
   pub amount : Dose → ℕ
-  pub stops : ℕ → Bool
+  pub stops : Class → Bool
 
 -- "unmarked amounts as chosen"; "marked and unmarked doses"; "marked doses only" is `is_marked`
 abbrev pub unmarked : Dose → Bool
@@ -23,14 +25,14 @@ abbrev any_mark : Dose → Bool
 any_mark x = true
 
 -- "any fixed or mixed period"; "any period with doses"; "a need or mixed period"
-abbrev pub fixed_or_mixed : ℕ → Bool
-fixed_or_mixed class = class == fixed || class == mixed
+abbrev pub fixed_or_mixed : Class → Bool
+fixed_or_mixed class = has_fixed class
 
-abbrev pub with_doses : ℕ → Bool
-with_doses class = not (class == empty)
+abbrev pub with_doses : Class → Bool
+with_doses class = not (is_empty class)
 
-abbrev pub need_or_mixed : ℕ → Bool
-need_or_mixed class = class == need || class == mixed
+abbrev pub need_or_mixed : Class → Bool
+need_or_mixed class = has_need class
 
 -- "choice (1 low, 2 upper)", a row a choice
 abbrev pub by_low : Choice
@@ -76,14 +78,14 @@ unfoldable pub need_on : ℕ → List ℕ → List Pause → ℕ → ℕ
 need_on choice p ps d = cond (is_paused ps d) 0 (due_on choice p d)
 
 -- the period at block b sets the stop day, if `class` says its class
-abbrev pub stops_at : ℕ → (ℕ → ℕ) → List ℕ → ℕ → Bool
+abbrev pub stops_at : ℕ → (ℕ → Class) → List ℕ → ℕ → Bool
 stops_at choice class p b = is_period p b && (choice_of choice).stops (class b)
 
 -- the last day of any such period, and whether there is one
-unfoldable pub stop_day_by : ℕ → (ℕ → ℕ) → List ℕ → ℕ
+unfoldable pub stop_day_by : ℕ → (ℕ → Class) → List ℕ → ℕ
 stop_day_by choice class p = largest_below (blocks_of p) (λ b. cond (stops_at choice class p b) (last_of (block_at p b)) 0)
 
-unfoldable pub has_stop_by : ℕ → (ℕ → ℕ) → List ℕ → Bool
+unfoldable pub has_stop_by : ℕ → (ℕ → Class) → List ℕ → Bool
 has_stop_by choice class p = any_below (blocks_of p) (stops_at choice class p)
 
 -- "The stop day is the last day of any fixed or mixed period."; W1: "the choice's own stop day"

@@ -1,8 +1,10 @@
 -- Which periods count by a choice, told in a number: a bit for each block.
-use Rattle.std.specs.Prelude.{◌≡◌, ℕ, zero, suc, ◌+◌, ◌*◌, ◌/◌, ◌%◌, ◌<◌, min, Bool, true, cond, ◌&&◌, ◌||◌, List, ◌==◌, slice_index}
+use Rattle.std.specs.Prelude.{◌≡◌, ℕ, zero, suc, ◌+◌, ◌*◌, ◌/◌, ◌%◌, ◌<◌, min, Bool, true, cond, ◌&&◌, ◌||◌, List, ◌==◌, slice_index_or}
 use Rattle.below.specs.Below.{any_below, largest_below}
 use Rattle.plan.specs.Fields.{last_of}
 use Rattle.plan.specs.Periods.{blocks_of, block_at, is_period, class_of}
+use Rattle.plan.specs.declared.Class.{Class}
+use Rattle.plan.specs.declared.Class.TheVariants.{Empty}
 use Rattle.need.specs.Need.{choice_of}
 use Rattle.need.specs.declared.Told.{Told}
 
@@ -17,11 +19,11 @@ bits_from f b zero = 0
 bits_from f b (suc n) = cond (f b) 1 0 + 2 * bits_from f (b + 1) n
 
 -- those of a plan's blocks, 32 at the most, by the classes of its periods
-abbrev pub bits_by : ℕ → List ℕ → List ℕ → ℕ
-bits_by choice cs p = bits_from (λ b. (choice_of choice).stops (slice_index cs b)) 0 (min (blocks_of p) 32)
+abbrev pub bits_by : ℕ → List Class → List ℕ → ℕ
+bits_by choice cs p = bits_from (λ b. (choice_of choice).stops (slice_index_or cs b Empty)) 0 (min (blocks_of p) 32)
 
 -- the same for each choice; 1 and 2 have one number
-abbrev pub told_of : List ℕ → List ℕ → Told
+abbrev pub told_of : List Class → List ℕ → Told
 told_of cs p = record { fixed = bits_by 1 cs p; dosed = bits_by 3 cs p; needed = bits_by 4 cs p }
 
 -- the bits of a choice; by any other number nothing counts

@@ -6,29 +6,18 @@ ghost use Rattle.need.specs.Telling.{is_set, told_of, bits_in};
 
 use crate::Told;
 use crate::choice::is_stopping;
-
-pub(crate) fn least32(n: usize) -> u8
-    ensures { result ≡ min n 32 }
-{
-    if n < 32 { n as u8 } else { 32 }
-}
-
-fn bit(t: bool) -> u32
-    ensures { (result ≡ (if t then 1 else 0)) × (result ≤ 1) }
-{
-    if t { 1 } else { 0 }
-}
+use plan::Class;
 
 // The bits with that of a block more, ahead of the others.
 fn with_bit(bits: u32, t: bool) -> u32
     requires { bits < 2147483648 }
     ensures { result ≡ (if t then 1 else 0) + 2 * bits }
 {
-    bits * 2 + bit(t)
+    bits * 2 + u32::from(t)
 }
 
 // The same of all choices, by the class of the block's period.
-fn with_class(x: Told, class: u8) -> Told
+fn with_class(x: Told, class: Class) -> Told
     requires { (x.fixed < 2147483648) × (x.dosed < 2147483648) × (x.needed < 2147483648) }
     ensures { (result.fixed ≡ (if (choice_of 1).stops class then 1 else 0) + 2 * x.fixed) × (result.dosed ≡ (if (choice_of 3).stops class then 1 else 0) + 2 * x.dosed) × (result.needed ≡ (if (choice_of 4).stops class then 1 else 0) + 2 * x.needed) }
 {
@@ -40,7 +29,7 @@ fn with_class(x: Told, class: u8) -> Told
 }
 
 // The bits of the plan's blocks, 32 at the most. `classes` has the class of the period at each block.
-pub fn told_by(plan: &[u8], classes: [u8; 32]) -> Told
+pub fn told_by(plan: &[u8], classes: [Class; 32]) -> Told
     ensures { result ≡ told_of classes plan.now }
 {
     let mut x = Told {
@@ -48,10 +37,8 @@ pub fn told_by(plan: &[u8], classes: [u8; 32]) -> Told
         dosed: 0,
         needed: 0,
     };
-    let mut b = least32(plan.len() / 512);
-    while 0 < b {
-        b -= 1;
-        x = with_class(x, classes[b as usize]);
+    for b in (0..(plan.len() / 512).min(32)).rev() {
+        x = with_class(x, classes[b]);
     }
     x
 }
@@ -60,13 +47,12 @@ pub fn told_by(plan: &[u8], classes: [u8; 32]) -> Told
 pub fn bits_by(x: Told, choice: u32) -> u32
     ensures { result ≡ bits_in x choice }
 {
-    if (choice == 1) | (choice == 2) {
-        return x.fixed;
+    match choice {
+        1 | 2 => x.fixed,
+        3 => x.dosed,
+        4 => x.needed,
+        _ => 0,
     }
-    if choice == 3 {
-        return x.dosed;
-    }
-    if choice == 4 { x.needed } else { 0 }
 }
 
 // Is the lowest bit set?

@@ -12,16 +12,9 @@ pub use choice::{amount, is_choice};
 pub use due::due_on;
 pub use stopping::stop_of;
 
-// The stop day, if there is one.
-#[derive(Clone, Copy)]
-pub struct Stop {
-    pub any: bool,
-    pub day: u32,
-}
-
 // Which periods count, a bit for each block: by choices 1 and 2 the fixed and mixed ones, by 3 those with doses, by 4 the need and mixed
 // ones.
-#[derive(Clone, Copy)]
+#[derive(Clone, Copy, Debug, PartialEq, Eq)]
 pub struct Told {
     pub fixed: u32,
     pub dosed: u32,

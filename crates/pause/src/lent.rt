@@ -3,28 +3,23 @@ ghost use Rattle.std.specs.Prelude.{◌≡◌, get_or};
 ghost use Rattle.pause.specs.Pauses.{no_day, is_paused, are_out};
 ghost use Rattle.pause.specs.Sight.{sight_of, sight_on};
 
-use crate::test::{NO_DAY, NO_PAUSE, or_held, or_out, with_pause_in_sight};
+use crate::test::{NO_DAY, NO_PAUSE, is_in, is_out, with_pause_in_sight};
 use crate::{Pause, Sight};
 
 // The pause at place `i` of the list; past the end, one that holds no day.
 pub fn pause_at(ps: &[Pause], i: usize) -> Pause
     ensures { result ≡ get_or ps.now i no_day }
 {
-    if i < ps.len() {
-        return ps[i];
-    }
-    NO_DAY
+    ps.get(i).copied().unwrap_or(NO_DAY)
 }
 
-// Does some pause of the list hold the day?
+// Does some pause of the list hold the day? It goes through all of them: with no way out ahead of the end, several are tested at a time.
 pub fn paused(ps: &[Pause], day: u32) -> bool
     ensures { result ≡ is_paused ps.now day }
 {
     let mut hit = false;
-    let mut i = 0;
-    while i < ps.len() {
-        hit = or_held(hit, pause_at(ps, i), day);
-        i = i + 1;
+    for p in ps {
+        hit |= is_in(p.first, p.last, day);
     }
     hit
 }
@@ -33,14 +28,7 @@ pub fn paused(ps: &[Pause], day: u32) -> bool
 pub fn are_out(ps: &[Pause]) -> bool
     ensures { result ≡ are_out ps.now }
 {
-    let count = ps.len();
-    let mut out = 32 < count;
-    let mut i = 0;
-    while i < ps.len() {
-        out = or_out(out, pause_at(ps, i));
-        i = i + 1;
-    }
-    out
+    (32 < ps.len()) | ps.iter().any(|p| is_out(*p))
 }
 
 // Is the day paused, and up to which day does that stay so?
@@ -48,10 +36,8 @@ pub fn sight_from(ps: &[Pause], day: u32) -> Sight
     ensures { result ≡ sight_of ps.now day }
 {
     let mut s = NO_PAUSE;
-    let mut i = 0;
-    while i < ps.len() {
-        s = with_pause_in_sight(s, pause_at(ps, i), day);
-        i = i + 1;
+    for p in ps {
+        s = with_pause_in_sight(s, *p, day);
     }
     s
 }
@@ -64,7 +50,7 @@ pub fn sight_on(ps: &[Pause], day: u32, known: Sight) -> Sight
     if day <= known.until {
         return Sight {
             paused: paused(ps, day),
-            until: known.until,
+            ..known
         };
     }
     sight_from(ps, day)

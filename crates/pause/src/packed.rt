@@ -1,19 +1,9 @@
 // The packed pauses of the C call, as the records that it lends.
-ghost use Rattle.std.specs.Prelude.{not, ◌||◌, ◌≡◌, ◌/◌, ◌%◌, ◌<◌, min, eqb, ltb, length, get_or, set};
+ghost use Rattle.std.specs.Prelude.{not, ◌||◌, ◌≡◌, ◌/◌, ◌%◌, eqb, ltb, length, get_or};
 ghost use Rattle.pause.specs.Pauses.{no_day, first_of, pauses_in, lent_of};
 
 use crate::Pause;
 use crate::test::NO_DAY;
-
-// The array with `p` at `i`.
-fn with_pause(a: [Pause; 32], i: usize, p: Pause) -> [Pause; 32]
-    requires { i < 32 }
-    ensures { result ≡ set a i p }
-{
-    let mut b = a;
-    b[i] = p;
-    b
-}
 
 // The packed pause at place `i`: 8 bytes, first then last day.
 fn packed_at(s: &[u8], i: usize) -> Pause
@@ -28,21 +18,13 @@ fn packed_at(s: &[u8], i: usize) -> Pause
     NO_DAY
 }
 
-fn least32(n: usize) -> usize
-    ensures { result ≡ min n 32 }
-{
-    if n < 32 { n } else { 32 }
-}
-
 // The first 32 pauses of the bytes. Only those that are there are gone through: a call without pauses is the usual one.
 fn records(s: &[u8]) -> [Pause; 32]
     ensures { result ≡ first_of 32 (pauses_in s.now) }
 {
-    let n = least32(s.len() / 8);
     let mut at = [NO_DAY; 32];
-    for i in 0..n {
-        let b = with_pause(at, i, packed_at(s, i));
-        at = b;
+    for i in 0..(s.len() / 8).min(32) {
+        at[i] = packed_at(s, i);
     }
     at
 }
@@ -51,7 +33,7 @@ fn records(s: &[u8]) -> [Pause; 32]
 fn is_no_list(s: &[u8]) -> bool
     ensures { result ≡ (not (eqb (length s.now % 8) 0) || ltb 32 (length s.now / 8)) }
 {
-    !(s.len() % 8 == 0) | (32 < s.len() / 8)
+    (s.len() % 8 != 0) | (32 < s.len() / 8)
 }
 
 // How many records the C call's bytes lend, at most 32: their pauses, or one that is out. The count and the array come from two

@@ -89,25 +89,25 @@ module _ (limit n : ℕ) (D : ℕ → Dose) (s : Walk) (w : Walked D n s) where
       any_hit (dose_breaks limit 7 D) x.1 (rw x.2)
 
   -- one of the first doses is untimed where one was kept
-  some_untimed : (ltb 0 s.fixed || ltb 0 s.need) ≡ any_below n (λ i. is_untimed (D i))
+  some_untimed : (ltb 0 s.fixed.at || ltb 0 s.need.at) ≡ any_below n (λ i. is_untimed (D i))
   some_untimed =
       let u : ℕ → Bool = λ i. is_untimed (D i) in
-      bool_iff (ltb 0 s.fixed || ltb 0 s.need) (any_below n u)
+      bool_iff (ltb 0 s.fixed.at || ltb 0 s.need.at) (any_below n u)
       (λ e.
       ⊎_elim
-      (λ (z : ltb 0 s.fixed ≡ true).
-      let l : 0 < s.fixed = ltb-true _ _ z in
-      any_hit u {i = s.fixed - 1} (omega (arith, w.fixed.within)) (w.fixed.here l).0)
+      (λ (z : ltb 0 s.fixed.at ≡ true).
+      let l : 0 < s.fixed.at = ltb-true _ _ z in
+      any_hit u {i = s.fixed.at - 1} (omega (arith, w.fixed.within)) (w.fixed.here l).0)
       (λ z.
-      let l : 0 < s.need = ltb-true _ _ z in
-      any_hit u {i = s.need - 1} (omega (arith, w.need.within)) (w.need.here l).0)
-      (or_either (ltb 0 s.fixed) (ltb 0 s.need) e))
+      let l : 0 < s.need.at = ltb-true _ _ z in
+      any_hit u {i = s.need.at - 1} (omega (arith, w.need.within)) (w.need.here l).0)
+      (or_either (ltb 0 s.fixed.at) (ltb 0 s.need.at) e))
       (λ e.
       let x = any_some u n e in
       ⊎_elim
       (λ (m : is_marked (D x.0) ≡ true).
-      or_second (ltb 0 s.fixed) (ltb 0 s.need) (lt-ltb 0 s.need (omega (arith, w.need.latest x.0 x.1 x.2 m))))
-      (λ m. rw (lt-ltb 0 s.fixed (omega (arith, w.fixed.latest x.0 x.1 x.2 m))))
+      or_second (ltb 0 s.fixed.at) (ltb 0 s.need.at) (lt-ltb 0 s.need.at (omega (arith, w.need.latest x.0 x.1 x.2 m))))
+      (λ m. rw (lt-ltb 0 s.fixed.at (omega (arith, w.fixed.latest x.0 x.1 x.2 m))))
       (bool_cases (is_marked (D x.0))))
 
   -- rule 12

@@ -1,5 +1,6 @@
 -- The laws behind the functions' proofs. Walked says what the pass has found when it stands at a dose, Ends and Ruling what
 -- that makes of the rules; QuickPass is the same for the quick pass.
+mod Ranges
 mod Choice
 mod Limit
 mod Counts

@@ -220,14 +220,14 @@ module _ (D : ℕ → Dose) where
     fourteen e =
         not_true_false (leb (100000000000 * round_of limit n D) (sum_below n (λ j. unmarked_upper (D j)))) (λ t.
         let much : 100000000000 * round_of limit n D ≤ sum_below n (λ j. unmarked_upper (D j)) = leb-true _ _ t in
-        let few : s.total < 100000000000 * cond (eqb limit 0) 1 limit = leb-false _ _ e in
+        let few : s.total < 100000000000 * max 1 limit = leb-false _ _ e in
         ⊎_elim
         (λ (z : eqb limit 0 ≡ true).
         let a : 100000000000 * max 1 (largest_below n (λ j. unmarked_day (D j))) ≤ sum_below n (λ j. unmarked_upper (D j)) = rw z at much in
-        let b : s.total < 100000000000 * 1 = rw z at few in omega (arith, k.sum))
+        omega (arith, k.sum, eqb-true limit 0 z))
         (λ z.
         let a : 100000000000 * limit ≤ sum_below n (λ j. unmarked_upper (D j)) = rw z at much in
-        let b : s.total < 100000000000 * limit = rw z at few in omega (arith, k.sum))
+        omega (arith, k.sum, eqb-false limit 0 z))
         (bool_cases (eqb limit 0)))
 
 -- what was let through, with the tests behind the pass, breaks no rule from 7 on
@@ -256,12 +256,8 @@ module _ (p : List ℕ) (b limit n : ℕ) (s : Quick) (limits : limit ≡ limit_
       (by_sum (fourteen D limit n s done e14))
 
 -- a round has one day at least, so that a sum below one day's is not too much
-pub too_little : (limit : ℕ) {total : ℕ} → total < 100000000000 → false ≡ leb (100000000000 * cond (eqb limit 0) 1 limit) total
-too_little limit {total} l =
-    ⊎_elim
-    (λ (z : eqb limit 0 ≡ true). rw z (sym (lt-leb (100000000000 * 1) total (omega arith))))
-    (λ z. rw z (sym (lt-leb (100000000000 * limit) total (omega (arith, eqb-false limit 0 z)))))
-    (bool_cases (eqb limit 0))
+pub too_little : (limit : ℕ) {total : ℕ} → total < 100000000000 → false ≡ leb (100000000000 * max 1 limit) total
+too_little limit {total} l = sym (lt-leb (100000000000 * max 1 limit) total (omega arith))
 
 -- the comparison of rule 14, by which nothing can grow too large
 pub by_quotient : (limit total : ℕ) → leb limit (total / 100000000000) ≡ leb (100000000000 * limit) total

@@ -84,6 +84,7 @@ module _ (p : List ℕ) (b : ℕ) where
   pub not_again : {n : ℕ} {s : Walk} → Passed p b n s → 7 < s.rule → s.again ≡ false → has_twice (dose_in p b) n ≡ false
   not_again {n} {s} done = ends.not_again 0 n (dose_in p b) s (rw done.kept (walked (dose_in p b) n))
 
+  -- rules 7 to 14, each by the answer of its test, where those ahead of it have answered no
   module _ {limit n : ℕ} {s : Walk} (limits : limit ≡ limit_of (block_at p b)) (counts : n ≡ doses_of p b) (done : Passed p b n s) where
     w : Walked (dose_in p b) n s
     w = rw done.kept (walked (dose_in p b) n)
@@ -107,22 +108,22 @@ module _ (p : List ℕ) (b : ℕ) where
       seven : period_breaks 7 p b ≡ is_past s limit
       seven = by_doses 7 (omega arith) (omega arith) ∙ ends.past limit n (dose_in p b) s w up
 
-      pub is_past_lem : is_past s limit ≡ true → NotYet p b 7 → 7 ≡ rule_of p b
-      is_past_lem e y = rule_is 7 (omega arith) (omega arith) y (seven ∙ e)
+      pub is_past_lem : {past : Bool} → past ≡ is_past s limit → past ≡ true → NotYet p b 7 → 7 ≡ rule_of p b
+      is_past_lem t e y = rule_is 7 (omega arith) (omega arith) y (seven ∙ sym t ∙ e)
 
-      module _ (in-time : is_past s limit ≡ false) where
+      module _ {past : Bool} (asked-7 : past ≡ is_past s limit) (no-7 : past ≡ false) where
         to_8 : NotYet p b 7 → NotYet p b 8
-        to_8 y = one_on 7 y (seven ∙ in-time)
+        to_8 y = one_on 7 y (seven ∙ sym asked-7 ∙ no-7)
 
         eight : period_breaks 8 p b ≡ is_any_day (dose_in p b) s n
         eight = by_doses 8 (omega arith) (omega arith) ∙ ends.any_day limit n (dose_in p b) s w up
 
-        pub is_8 : is_any_day (dose_in p b) s n ≡ true → NotYet p b 7 → 8 ≡ rule_of p b
-        is_8 e y = rule_is 8 (omega arith) (omega arith) (to_8 y) (eight ∙ e)
+        pub is_8 : {any : Bool} → any ≡ is_any_day (dose_in p b) s n → any ≡ true → NotYet p b 7 → 8 ≡ rule_of p b
+        is_8 t e y = rule_is 8 (omega arith) (omega arith) (to_8 y) (eight ∙ sym t ∙ e)
 
-        module _ (no-8 : is_any_day (dose_in p b) s n ≡ false) where
+        module _ {any : Bool} (asked-8 : any ≡ is_any_day (dose_in p b) s n) (no-8 : any ≡ false) where
           to_9 : NotYet p b 7 → NotYet p b 9
-          to_9 y = one_on 8 (to_8 y) (eight ∙ no-8)
+          to_9 y = one_on 8 (to_8 y) (eight ∙ sym asked-8 ∙ no-8)
 
           n8 : s.rule ≡ 8 → ⊥
           n8 = ends.never_8 limit n (dose_in p b) s w
@@ -154,12 +155,12 @@ module _ (p : List ℕ) (b : ℕ) where
             ten : period_breaks 10 p b ≡ has_twice (dose_in p b) n
             ten = by_doses 10 (omega arith) (omega arith) ∙ ends.ten limit n (dose_in p b) s w
 
-            pub is_10 : has_twice (dose_in p b) n ≡ true → NotYet p b 7 → 10 ≡ rule_of p b
-            is_10 e y = rule_is 10 (omega arith) (omega arith) (to_10 y) (ten ∙ e)
+            pub is_10 : {again : Bool} → again ≡ has_twice (dose_in p b) n → again ≡ true → NotYet p b 7 → 10 ≡ rule_of p b
+            is_10 t e y = rule_is 10 (omega arith) (omega arith) (to_10 y) (ten ∙ sym t ∙ e)
 
-            module _ (no-10 : has_twice (dose_in p b) n ≡ false) where
+            module _ {again : Bool} (asked-10 : again ≡ has_twice (dose_in p b) n) (no-10 : again ≡ false) where
               to_11 : NotYet p b 7 → NotYet p b 11
-              to_11 y = one_on 10 (to_10 y) (ten ∙ no-10)
+              to_11 y = one_on 10 (to_10 y) (ten ∙ sym asked-10 ∙ no-10)
 
               pub is_11 : s.rule < 12 → NotYet p b 7 → s.rule ≡ rule_of p b
               is_11 l y =
@@ -173,12 +174,12 @@ module _ (p : List ℕ) (b : ℕ) where
                 twelve : period_breaks 12 p b ≡ is_both s
                 twelve = by_doses 12 (omega arith) (omega arith) ∙ ends.both limit n (dose_in p b) s w
 
-                pub is_12 : is_both s ≡ true → NotYet p b 7 → 12 ≡ rule_of p b
-                is_12 e y = rule_is 12 (omega arith) (omega arith) (to_12 y) (twelve ∙ e)
+                pub is_12 : {both : Bool} → both ≡ is_both s → both ≡ true → NotYet p b 7 → 12 ≡ rule_of p b
+                is_12 t e y = rule_is 12 (omega arith) (omega arith) (to_12 y) (twelve ∙ sym t ∙ e)
 
-                module _ (not_both : is_both s ≡ false) where
+                module _ {both : Bool} (asked-12 : both ≡ is_both s) (no-12 : both ≡ false) where
                   to_13 : NotYet p b 7 → NotYet p b 13
-                  to_13 y = one_on 12 (to_12 y) (twelve ∙ not_both)
+                  to_13 y = one_on 12 (to_12 y) (twelve ∙ sym asked-12 ∙ no-12)
 
                   pub is_13 : s.rule < 14 → NotYet p b 7 → s.rule ≡ rule_of p b
                   is_13 l y =
@@ -192,8 +193,8 @@ module _ (p : List ℕ) (b : ℕ) where
                     fourteen : period_breaks 14 p b ≡ is_too_much s limit
                     fourteen = by_sum ∙ ends.too_much_lem limit n (dose_in p b) s w up
 
-                    pub is_14 : is_too_much s limit ≡ true → NotYet p b 7 → 14 ≡ rule_of p b
-                    is_14 e y = rule_is 14 (omega arith) (omega arith) (to_14 y) (fourteen ∙ e)
+                    pub is_14 : {much : Bool} → much ≡ is_too_much s limit → much ≡ true → NotYet p b 7 → 14 ≡ rule_of p b
+                    is_14 t e y = rule_is 14 (omega arith) (omega arith) (to_14 y) (fourteen ∙ sym t ∙ e)
 
-                    pub is_15 : is_too_much s limit ≡ false → NotYet p b 7 → 15 ≡ rule_of p b
-                    is_15 e y = none_is (one_on 14 (to_14 y) (fourteen ∙ e))
+                    pub is_15 : {much : Bool} → much ≡ is_too_much s limit → much ≡ false → NotYet p b 7 → 15 ≡ rule_of p b
+                    is_15 t e y = none_is (one_on 14 (to_14 y) (fourteen ∙ sym t ∙ e))

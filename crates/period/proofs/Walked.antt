@@ -1,6 +1,6 @@
 -- What the pass over the doses D 0, D 1, .. has found when it stands at dose j: the meaning of each number that it keeps.
 -- Assumes nothing.
-use Prim.Native.Nat.{ℕ, zero, suc, ◌+◌, ◌-◌, ◌*◌, ◌≤◌, ◌<◌}
+use Prim.Native.Nat.{ℕ, zero, suc, ◌+◌, ◌-◌, ◌*◌, ◌≤◌, ◌<◌, min}
 use mathlib.Core.Bool.{Bool, true, false, cond, not, ◌&&◌, ◌||◌, beq}
 use mathlib.Core.Logic.{⊎_elim}
 use mathlib.Core.Path.{◌≡◌, refl, sym, ap, ◌∙◌}
@@ -16,9 +16,10 @@ use Rattle.below.proofs.Tests.{bool_cases, true_not_false, not_true_false, bool_
 use Rattle.below.proofs.Total.{count_zero, count_more, sum_zero, sum_more, largest_zero, largest_more}
 use Rattle.plan.specs.declared.Dose.{Dose}
 use Rattle.plan.specs.Fields.{is_marked}
+use Rattle.period.specs.declared.turn.Last.{Last}
 use Rattle.period.specs.declared.turn.Walk.{Walk}
 use Rattle.period.specs.Doses.{falls, same_day, is_timed, is_untimed, twice, other_amounts, bad_range, unmarked_upper, unmarked_day}
-use Rattle.period.specs.Code.Turn.{is_clock, rank_of, last_at, from_of, is_crowded, is_asked, same_amounts, is_like, is_other, is_fixed, is_need, lowest, rule_with, next_rule, begun, turned, walked_to}
+use Rattle.period.specs.Code.Turn.{is_clock, rank_of, last_at, from_of, is_crowded, is_asked, same_amounts, is_like, is_other, is_fixed, is_need, kept_as, lowest, rule_with, next_rule, begun, turned, walked_to}
 use Rattle.period.proofs.Choice.{cond_le, larger}
 use Rattle.period.proofs.Counts.{count_from}
 use Rattle.period.proofs.Lowest.{test_of, lowest_is, same_tests, no_test}
@@ -47,13 +48,13 @@ module _ (D : ℕ → Dose) where
     pub most : s.most ≡ largest_below j (λ i. unmarked_day (D i))
     pub most_le : s.most ≤ s.day
 
-  -- `last` is the last of the first j doses that has kind 0 and that need mark, its index and 1, and has those amounts
-  pub record Kept (j : ℕ) (mark : Bool) (last low high : ℕ) : Type 0 where
-    pub within : last ≤ j
-    pub here : 0 < last → (is_untimed (D (last - 1)) ≡ true) × (is_marked (D (last - 1)) ≡ mark) × (low ≡ (D (last - 1)).low) × (high ≡ (D (last - 1)).high)
-    pub latest : (i : ℕ) → i < j → is_untimed (D i) ≡ true → is_marked (D i) ≡ mark → i < last
+  -- `last` is the last of the first j doses that has kind 0 and that need mark
+  pub record Kept (j : ℕ) (mark : Bool) (last : Last) : Type 0 where
+    pub within : last.at ≤ j
+    pub here : 0 < last.at → (is_untimed (D (last.at - 1)) ≡ true) × (is_marked (D (last.at - 1)) ≡ mark) × (last.low ≡ (D (last.at - 1)).low) × (last.high ≡ (D (last.at - 1)).high)
+    pub latest : (i : ℕ) → i < j → is_untimed (D i) ≡ true → is_marked (D i) ≡ mark → i < last.at
 
-  kept_none : (mark : Bool) → Kept 0 mark 0 0 0
+  kept_none : (mark : Bool) → Kept 0 mark (record { at = 0; low = 0; high = 0 })
   kept_none mark =
       record {
         within = omega arith;
@@ -62,7 +63,7 @@ module _ (D : ℕ → Dose) where
       }
 
   -- dose j is such a dose, or it is not
-  kept_more : (j : ℕ) (mark t : Bool) {last low high : ℕ} → (t ≡ true → (is_untimed (D j) ≡ true) × (is_marked (D j) ≡ mark)) → (t ≡ false → is_untimed (D j) ≡ true → is_marked (D j) ≡ mark → ⊥) → Kept j mark last low high → Kept (j + 1) mark (cond t (j + 1) last) (cond t (D j).low low) (cond t (D j).high high)
+  kept_more : (j : ℕ) (mark t : Bool) {last : Last} → (t ≡ true → (is_untimed (D j) ≡ true) × (is_marked (D j) ≡ mark)) → (t ≡ false → is_untimed (D j) ≡ true → is_marked (D j) ≡ mark → ⊥) → Kept j mark last → Kept (j + 1) mark (cond t (kept_as (D j) j) last)
   kept_more j mark true {last} h g k =
       let e : j + 1 - 1 ≡ j = omega arith in
       record {
@@ -75,7 +76,7 @@ module _ (D : ℕ → Dose) where
         within = omega (arith, k.within);
         here = k.here;
         latest =
-            below_more (λ (i : ℕ). is_untimed (D i) ≡ true → is_marked (D i) ≡ mark → i < last) j
+            below_more (λ (i : ℕ). is_untimed (D i) ≡ true → is_marked (D i) ≡ mark → i < last.at) j
             k.latest
             (λ u m. absurd (g refl u m));
       }
@@ -87,8 +88,8 @@ module _ (D : ℕ → Dose) where
     pub last : 0 < j → s.day ≡ (D (j - 1)).day
     pub tops : (i : ℕ) → i < j → is_clock (D i) ≡ true → rank_of (D i) ≤ s.top
     pub kinds : (i : ℕ) → i < j → is_timed (D i) ≡ true → i < last_at s (D i).kind
-    pub fixed : Kept j false s.fixed s.fixed_low s.fixed_high
-    pub need : Kept j true s.need s.need_low s.need_high
+    pub fixed : Kept j false s.fixed
+    pub need : Kept j true s.need
     pub timed : s.timed ≡ any_below j (λ i. is_timed (D i))
     pub marked : s.marked ≡ count_below j (λ i. is_marked (D i))
     pub sum : 2048 * s.big + s.small ≡ sum_below j (λ i. unmarked_upper (D i))
@@ -201,7 +202,7 @@ module _ (D : ℕ → Dose) where
           (eq-or-lt_of_le a)
 
       -- the last dose like dose j, whatever its mark
-      like_kept : Kept j (is_marked (D j)) (cond (is_marked (D j)) s.need s.fixed) (cond (is_marked (D j)) s.need_low s.fixed_low) (cond (is_marked (D j)) s.need_high s.fixed_high)
+      like_kept : Kept j (is_marked (D j)) (cond (is_marked (D j)) s.need s.fixed)
       like_kept =
           ⊎_elim
           (λ (e : is_marked (D j) ≡ true). rw e w.need)
@@ -212,22 +213,20 @@ module _ (D : ℕ → Dose) where
       other_at l =
           let mark = is_marked (D j) in
           let last = cond mark s.need s.fixed in
-          let low = cond mark s.need_low s.fixed_low in
-          let high = cond mark s.need_high s.fixed_high in
-          let k : Kept j mark last low high = like_kept in
-          let amounts : 0 < last → (eqb low (D j).low && eqb high (D j).high) ≡ same_amounts (D (last - 1)) (D j) =
+          let k : Kept j mark last = like_kept in
+          let amounts : 0 < last.at → (eqb last.low (D j).low && eqb last.high (D j).high) ≡ same_amounts (D (last.at - 1)) (D j) =
           λ h. rw ((k.here h).2, (k.here h).3) in
           bool_iff (is_other s (D j) j) (any_below j (λ i. other_amounts (D i) (D j)))
           (λ e.
-          let x = and_both (is_untimed (D j) && ltb from last) (not (eqb low (D j).low && eqb high (D j).high)) e in
-          let y = and_both (is_untimed (D j)) (ltb from last) x.0 in
-          let h : from < last = ltb-true _ _ y.1 in
-          let some : 0 < last = omega arith in
-          any_hit (λ (i : ℕ). other_amounts (D i) (D j)) {i = last - 1} (omega (arith, k.within))
-          (other_of (D (last - 1)) (D j) (record {
-            day = here (last - 1) (omega arith) (omega (arith, k.within));
+          let x = and_both (is_untimed (D j) && ltb from last.at) (not (eqb last.low (D j).low && eqb last.high (D j).high)) e in
+          let y = and_both (is_untimed (D j)) (ltb from last.at) x.0 in
+          let h : from < last.at = ltb-true _ _ y.1 in
+          let some : 0 < last.at = omega arith in
+          any_hit (λ (i : ℕ). other_amounts (D i) (D j)) {i = last.at - 1} (omega (arith, k.within))
+          (other_of (D (last.at - 1)) (D j) (record {
+            day = here (last.at - 1) (omega arith) (omega (arith, k.within));
             like = rw ((k.here some).0, y.0, (k.here some).1) (same_same mark);
-            amounts = sym (amounts some) ∙ not-true (eqb low (D j).low && eqb high (D j).high) x.1;
+            amounts = sym (amounts some) ∙ not-true (eqb last.low (D j).low && eqb last.high (D j).high) x.1;
           })))
           (λ e.
           let x = any_some (λ (i : ℕ). other_amounts (D i) (D j)) j e in
@@ -236,13 +235,13 @@ module _ (D : ℕ → Dose) where
           let a : from ≤ i = same_from i o.day in
           let u = and_both (is_untimed (D i) && is_untimed (D j)) (beq (is_marked (D i)) mark) o.like in
           let v = and_both (is_untimed (D i)) (is_untimed (D j)) u.0 in
-          let h : i < last = k.latest i x.1 v.0 (same_is (is_marked (D i)) mark u.1) in
-          let some : 0 < last = omega arith in
-          let n = last - 1 in
+          let h : i < last.at = k.latest i x.1 v.0 (same_is (is_marked (D i)) mark u.1) in
+          let some : 0 < last.at = omega arith in
+          let n = last.at - 1 in
           let m : n < j = omega (arith, k.within) in
           let other : same_amounts (D n) (D j) ≡ false =
           still_other l i n (omega arith) m o (rw ((k.here some).0, v.1, (k.here some).1) (same_same mark)) (here n (omega arith) m) in
-          both_and (both_and v.1 (lt-ltb from last (omega arith))) (ap not (amounts some ∙ other)))
+          both_and (both_and v.1 (lt-ltb from last.at (omega arith))) (ap not (amounts some ∙ other)))
 
     -- the code's tests are the rules', as far as they count
     abbrev code_breaks : ℕ → Bool
@@ -276,23 +275,23 @@ module _ (D : ℕ → Dose) where
         let m = lowest (ltb (D j).day s.day) (is_crowded s (D j) j) (is_other s (D j) j) (bad_range (D j)) in
         let f = lowest_is (ltb (D j).day s.day) (is_crowded s (D j) j) (is_other s (D j) j) (bad_range (D j)) in
         ⊎_elim
-        (λ (t : ltb m s.rule ≡ true).
-        let l : m < s.rule = ltb-true _ _ t in
-        rw t (record {
-          least = f.least;
-          le = omega arith;
-          below = λ k a b. sym (agree k (omega arith) (λ x. f.before 7 (omega arith) (omega arith))) ∙ f.before k a b;
-          at = λ x. sym (agree m l (λ y. f.before 7 (omega arith) (omega arith))) ∙ f.here (omega (arith, w.most));
-        }))
-        (λ t.
-        let l : s.rule ≤ m = ltb-false _ _ t in
-        rw t (record {
+        (λ (l : s.rule ≤ m).
+        let e : min m s.rule ≡ s.rule = omega arith in
+        rw e (record {
           least = w.least;
           le = omega arith;
           below = λ k a b. sym (agree k (omega arith) (λ x. f.before 7 (omega arith) (omega arith))) ∙ f.before k a (omega arith);
           at = λ x. absurd (omega arith);
         }))
-        (bool_cases (ltb m s.rule))
+        (λ l.
+        let e : min m s.rule ≡ m = omega arith in
+        rw e (record {
+          least = f.least;
+          le = omega arith;
+          below = λ k a b. sym (agree k (omega arith) (λ x. f.before 7 (omega arith) (omega arith))) ∙ f.before k a b;
+          at = λ x. sym (agree m l (λ y. f.before 7 (omega arith) (omega arith))) ∙ f.here (omega (arith, w.most));
+        }))
+        (le_or_lt s.rule m)
 
     -- none of the tests holds
     plain : is_asked s (D j) j ≡ false → (k : ℕ) → k < s.rule → pass_breaks k j ≡ false

@@ -1,9 +1,9 @@
 // What a period's header says: its place in the treatment, the period ahead of it, and its longest day number. A header comes by
 // value, so that it is read once; what is said of it here holds of every block that has it.
-ghost use Rattle.std.specs.Prelude.{List, ◌≡◌, ℕ, ◌≤◌, eqb};
+ghost use Rattle.std.specs.Prelude.{MatchOption, List, ◌≡◌, ℕ, ◌<◌, true, false, eqb};
 ghost use Rattle.day.specs.Days.{open_mark, closed_day};
 ghost use Rattle.plan.specs.Fields.{first_of, header_of};
-ghost use Rattle.plan.specs.Periods.{block_at};
+ghost use Rattle.plan.specs.Periods.{block_at, is_period};
 ghost use Rattle.period.specs.Period.{outside, ahead_of, early, limit_of};
 
 use day::Day;
@@ -31,16 +31,11 @@ pub(crate) fn is_outside(head: Header, h: Header) -> bool
     (h.first < head.first) | (last_day(head) < last_day(h)) | (is_open(h) & !is_open(head))
 }
 
-// How far ahead of block b - 1 the nearest period ahead of block b begins; b where there is none.
-fn ahead_of(plan: &[u8], b: u8) -> u8
-    ensures { (result ≡ ahead_of plan.now b) × (result ≤ b) }
+// The nearest period ahead of block b.
+fn ahead_of(plan: &[u8], b: u8) -> Option<u8>
+    ensures { MatchOption result ((k : ℕ) → k < b → is_period plan.now k ≡ false) (λ a. (a < b) × (is_period plan.now a ≡ true) × ((k : ℕ) → a < k → k < b → is_period plan.now k ≡ false)) }
 {
-    for i in 0..b {
-        if is_period(plan, b - 1 - i) {
-            return i;
-        }
-    }
-    b
+    (0..b).rev().find(|a| is_period(plan, *a))
 }
 
 // Rule 6, with the first day of the period at block b.
@@ -48,14 +43,14 @@ pub(crate) fn is_early(plan: &[u8], b: u8, first: u32) -> bool
     requires { first ≡ first_of (block_at plan.now b) }
     ensures { result ≡ early plan.now b }
 {
-    let ahead = ahead_of(plan, b);
-    if ahead < b {
-        return first < first_of(block_of(plan, (b - 1 - ahead) as u16));
+    match ahead_of(plan, b) {
+        Some(a) => first < first_of(block_of(plan, a as u16)),
+        None => false,
     }
-    false
 }
 
 // The largest day number that the period has room for, 0 where nothing limits it.
+// Kept: 0 and no Option, as the definition `limit_of` has it, by which rules 7 and 14 are stated.
 pub(crate) fn limit_of(h: Header) -> u32
     ensures { (r : List ℕ) → h ≡ header_of r → result ≡ limit_of r }
 {

@@ -4,45 +4,46 @@
 
 mod finish;
 mod header;
+mod period_doses;
 mod quick;
 mod turn;
 mod twice;
 mod walk;
 
-ghost use Rattle.std.specs.Prelude.{◌≡◌, ◌≤◌, ◌<◌};
-ghost use Rattle.plan.specs.Periods.{doses_of, block_at, class_of};
-ghost use Rattle.period.specs.Period.{limit_of, rule_of};
+ghost use Rattle.std.specs.Prelude.{◌≡◌, ◌≤◌};
+ghost use Rattle.plan.specs.Periods.{class_of};
+ghost use Rattle.period.specs.Period.{rule_of};
 ghost use Rattle.period.specs.Code.Finish.{NotYet};
 
-use finish::rule_from_7;
-use header::{is_early, is_outside, limit_of};
-use plan::{block_of, class_by, class_of, doses_of, header_of};
-use quick::glance;
-use walk::walk_doses;
+use header::{is_early, is_outside};
+use period_doses::Doses;
+use plan::{Class, block_of, class_by, class_of, header_of};
 
 // What was found of a period: its lowest broken rule from 5 to 14, or 15, and its class.
 #[derive(Clone, Copy)]
 pub struct Judged {
     pub rule: u8,
-    pub class: u8,
+    pub class: Class,
 }
 
-// What the exact pass finds of a period that keeps rules 5 and 6.
-fn judge_doses(plan: &[u8], b: u8, n: u16, limit: u32) -> Judged
-    requires { (n ≡ doses_of plan.now b) × (n ≤ 1515) × (limit ≡ limit_of (block_at plan.now b)) × NotYet plan.now b 7 }
-    ensures { (result.rule ≡ rule_of plan.now b) × (result.class ≡ class_of plan.now b) × (result.rule ≤ 15) × (result.class < 4) }
-{
-    let s = walk_doses(plan, b, n);
-    Judged {
-        rule: rule_from_7(plan, b, s, n, limit),
-        class: class_by(s.marked < n, 0 < s.marked),
+impl Doses<'_> {
+    // What the exact pass finds of a period that keeps rules 5 and 6.
+    fn judge(self) -> Judged
+        requires { NotYet self.plan.now self.b 7 }
+        ensures { (result.rule ≡ rule_of self.entry.plan.now self.entry.b) × (result.class ≡ class_of self.entry.plan.now self.entry.b) × (result.rule ≤ 15) }
+    {
+        let s = self.walk();
+        Judged {
+            rule: self.rule_from_7(s),
+            class: class_by(s.marked < self.n, 0 < s.marked),
+        }
     }
 }
 
 // The lowest of rules 5 to 14 that the period at block b breaks, 15 where it breaks none; and its class. It is found exactly, and
 // with nothing taken from the quick way.
 fn judge_exactly(plan: &[u8], b: u8) -> Judged
-    ensures { (result.rule ≡ rule_of plan.now b) × (result.class ≡ class_of plan.now b) × (result.rule ≤ 15) × (result.class < 4) }
+    ensures { (result.rule ≡ rule_of plan.now b) × (result.class ≡ class_of plan.now b) × (result.rule ≤ 15) }
 {
     let head = header_of(block_of(plan, 0));
     let h = header_of(block_of(plan, b as u16));
@@ -58,14 +59,13 @@ fn judge_exactly(plan: &[u8], b: u8) -> Judged
             class: class_of(plan, b),
         };
     }
-    let n = doses_of(plan, b);
-    judge_doses(plan, b, n, limit_of(h))
+    Doses::with_header(plan, b, h).judge()
 }
 
 // The same, by the quick way where that lets the period through. Where it does not, the exact way begins anew, and is called in each
 // place by itself: a function with one call is compiled into its caller, where it would take the registers from the quick way.
 pub fn judge_period(plan: &[u8], b: u8) -> Judged
-    ensures { (result.rule ≡ rule_of plan.now b) × (result.class ≡ class_of plan.now b) × (result.rule ≤ 15) × (result.class < 4) }
+    ensures { (result.rule ≡ rule_of plan.now b) × (result.class ≡ class_of plan.now b) × (result.rule ≤ 15) }
 {
     let at = (b as usize) * 512;
     let end = at + 512;
@@ -80,12 +80,11 @@ pub fn judge_period(plan: &[u8], b: u8) -> Judged
     if is_early(plan, b, h.first) {
         return judge_exactly(plan, b);
     }
-    let n = doses_of(plan, b);
-    let seen = glance(plan, b, n, limit_of(h));
-    if seen.fine {
+    let doses = Doses::with_header(plan, b, h);
+    if let Some(marked) = doses.glance() {
         return Judged {
             rule: 15,
-            class: class_by(seen.marked < (n as u64), 0 < seen.marked),
+            class: class_by(marked < (doses.n as u64), 0 < marked),
         };
     }
     judge_exactly(plan, b)

@@ -1,10 +1,28 @@
 // The pass over a period's doses: what it keeps, and one dose more.
-ghost use Rattle.std.specs.Prelude.{◌≡◌, cond, ◌+◌, ◌≤◌, ◌<◌};
+ghost use Rattle.std.specs.Prelude.{◌≡◌, ◌+◌, ◌≤◌, ◌<◌};
 ghost use Rattle.plan.specs.Fields.{is_marked};
 ghost use Rattle.period.specs.Doses.{is_timed, is_untimed, bad_range};
-ghost use Rattle.period.specs.Code.Turn.{rank_of, from_of, is_crowded, is_other, is_asked, is_clock, last_at, begun, turned, Room};
+ghost use Rattle.period.specs.Code.Turn.{rank_of, from_of, is_crowded, is_other, is_asked, is_clock, last_at, turned, Room};
 
 use plan::{Dose, is_marked, upper_of};
+use std::hint::select_unpredictable;
+
+// The last dose of its sort: its index and 1, 0 where there is none, and its amounts.
+// Kept: a number and no Option, so that `from < at` asks at once whether there is one and whether it is of the day at hand.
+#[derive(Clone, Copy)]
+pub(crate) struct Last {
+    pub at: u16,
+    pub low: u64,
+    pub high: u64,
+}
+
+impl Last {
+    pub(crate) const NONE: Last = Last {
+        at: 0,
+        low: 0,
+        high: 0,
+    };
+}
 
 // What the pass keeps of the doses that it has passed.
 #[derive(Clone, Copy)]
@@ -14,14 +32,11 @@ pub(crate) struct Walk {
     pub from: u16,
     // the largest rank of a clock dose
     pub top: u64,
-    // the last unmarked dose of kind 0: its index and 1, 0 where there is none, and its amounts; the same of the marked ones
-    pub fixed: u16,
-    pub fixed_low: u64,
-    pub fixed_high: u64,
-    pub need: u16,
-    pub need_low: u64,
-    pub need_high: u64,
+    // the last unmarked dose of kind 0, and the last marked one
+    pub fixed: Last,
+    pub need: Last,
     // there is one of kinds 1 to 4; the last of each, its index and 1, 0 where there is none
+    // Kept: four fields and no array, whose length the definitions `turned` and `last_at` would have to carry along with each state.
     pub timed: bool,
     pub morning: u16,
     pub noon: u16,
@@ -40,39 +55,14 @@ pub(crate) struct Walk {
     pub rule: u8,
 }
 
-// Choices that cost no branch when compiled.
-fn pick16(c: bool, a: u16, b: u16) -> u16
-    ensures { result ≡ cond c a b }
-{
-    if c { a } else { b }
-}
-
-pub(crate) fn pick64(c: bool, a: u64, b: u64) -> u64
-    ensures { result ≡ cond c a b }
-{
-    if c { a } else { b }
-}
-
-fn one_if(c: bool) -> u16
-    ensures { (result ≡ cond c 1 0) × (result ≤ 1) }
-{
-    if c { 1 } else { 0 }
-}
-
-// Before the first dose.
-pub(crate) fn begin() -> Walk
-    ensures { (result ≡ begun) × Room 0 result }
-{
-    Walk {
+impl Walk {
+    // Before the first dose.
+    pub(crate) const BEGUN: Walk = Walk {
         day: 0,
         from: 0,
         top: 0,
-        fixed: 0,
-        fixed_low: 0,
-        fixed_high: 0,
-        need: 0,
-        need_low: 0,
-        need_high: 0,
+        fixed: Last::NONE,
+        need: Last::NONE,
         timed: false,
         morning: 0,
         noon: 0,
@@ -84,7 +74,7 @@ pub(crate) fn begin() -> Walk
         most: 0,
         again: false,
         rule: 14,
-    }
+    };
 }
 
 pub(crate) fn is_timed(d: Dose) -> bool
@@ -105,7 +95,7 @@ fn from_of(s: Walk, d: Dose, j: u16) -> u16
     requires { s.from ≤ j }
     ensures { (result ≡ from_of s d j) × (result ≤ j) }
 {
-    pick16(s.day == d.day, s.from, j)
+    select_unpredictable(s.day == d.day, s.from, j)
 }
 
 // Rule 9 for dose j: 99 doses of its day are ahead of it.
@@ -129,10 +119,8 @@ pub(crate) fn is_other(s: Walk, d: Dose, j: u16) -> bool
     ensures { result ≡ is_other s d j }
 {
     let marked = is_marked(d);
-    let last = pick16(marked, s.need, s.fixed);
-    let low = pick64(marked, s.need_low, s.fixed_low);
-    let high = pick64(marked, s.need_high, s.fixed_high);
-    (d.kind == 0) & (from_of(s, d, j) < last) & !((low == d.low) & (high == d.high))
+    let last = select_unpredictable(marked, s.need, s.fixed);
+    (d.kind == 0) & (from_of(s, d, j) < last.at) & !((last.low == d.low) & (last.high == d.high))
 }
 
 // Does dose j break one of the rules that the pass looks for?
@@ -147,18 +135,23 @@ pub(crate) fn is_asked(s: Walk, d: Dose, j: u16) -> bool
 fn last_of(s: Walk, d: Dose) -> u16
     ensures { result ≡ last_at s d.kind }
 {
-    pick16(
+    select_unpredictable(
         d.kind == 1,
         s.morning,
-        pick16(
+        select_unpredictable(
             d.kind == 2,
             s.noon,
-            pick16(d.kind == 3, s.evening, pick16(d.kind == 4, s.night, 0)),
+            select_unpredictable(
+                d.kind == 3,
+                s.evening,
+                select_unpredictable(d.kind == 4, s.night, 0),
+            ),
         ),
     )
 }
 
 // One dose more: dose j, which is d, is untimed, of the clock and marked or not, and `rule` is the lowest broken with it.
+// Kept: the three answers on `d` are parameters, so that it is compiled for each kind by itself; an enum of them would be matched to the same three.
 fn turn_by(s: Walk, d: Dose, j: u16, rule: u8, untimed: bool, clock: bool, marked: bool) -> Walk
     requires room { Room j s }
     requires j_bound { (j < 1515) × (untimed ≡ is_untimed d) × (clock ≡ is_clock d) × (marked ≡ is_marked d) }
@@ -167,28 +160,29 @@ fn turn_by(s: Walk, d: Dose, j: u16, rule: u8, untimed: bool, clock: bool, marke
     let from = from_of(s, d, j);
     let next = j + 1;
     let rank = rank_of(d);
-    let upper = pick64(marked, 0, upper_of(d));
+    let upper = select_unpredictable(marked, 0, upper_of(d));
     let fixed = untimed & !marked;
     let need = untimed & marked;
+    let last = Last {
+        at: next,
+        low: d.low,
+        high: d.high,
+    };
     Walk {
         day: d.day,
         from,
-        top: pick64(clock & (s.top < rank), rank, s.top),
-        fixed: pick16(fixed, next, s.fixed),
-        fixed_low: pick64(fixed, d.low, s.fixed_low),
-        fixed_high: pick64(fixed, d.high, s.fixed_high),
-        need: pick16(need, next, s.need),
-        need_low: pick64(need, d.low, s.need_low),
-        need_high: pick64(need, d.high, s.need_high),
+        top: select_unpredictable(clock & (s.top < rank), rank, s.top),
+        fixed: select_unpredictable(fixed, last, s.fixed),
+        need: select_unpredictable(need, last, s.need),
         timed: s.timed | is_timed(d),
-        morning: pick16(d.kind == 1, next, s.morning),
-        noon: pick16(d.kind == 2, next, s.noon),
-        evening: pick16(d.kind == 3, next, s.evening),
-        night: pick16(d.kind == 4, next, s.night),
-        marked: s.marked + one_if(marked),
+        morning: select_unpredictable(d.kind == 1, next, s.morning),
+        noon: select_unpredictable(d.kind == 2, next, s.noon),
+        evening: select_unpredictable(d.kind == 3, next, s.evening),
+        night: select_unpredictable(d.kind == 4, next, s.night),
+        marked: s.marked + u16::from(marked),
         big: s.big + upper / 2048,
         small: s.small + upper % 2048,
-        most: pick16(marked, s.most, d.day),
+        most: select_unpredictable(marked, s.most, d.day),
         again: s.again | (clock & (rank <= s.top)) | (from < last_of(s, d)),
         rule,
     }

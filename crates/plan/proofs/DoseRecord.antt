@@ -38,13 +38,13 @@ dose_lost s d h = sym (put_out s 0 (dose_bytes d) (omega (arith, length_dose d))
 
 -- a dose, field by field
 pub dose_written : (s : List ℕ) (d : Dose) → 24 ≤ length s →
-    put (put (put (put (put (put s 0 (bytes_of 2 d.day)) 2 (d.kind ∷ d.mark ∷ [])) 4 (bytes_of 2 d.minute)) 6 (0 ∷ 0 ∷ [])) 8 (bytes_of 8 d.low)) 16 (bytes_of 8 d.high) ≡ put s 0 (dose_bytes d)
+    put (put (put (put (put (put s 0 (bytes_of 2 d.day)) 2 (d.kind ∷ d.mark ∷ [])) 4 (bytes_of 2 d.minute)) 6 (bytes_of 2 0)) 8 (bytes_of 8 d.low)) 16 (bytes_of 8 d.high) ≡ put s 0 (dose_bytes d)
 unfolding bytes_of dose_bytes
 dose_written s d n =
     let day = bytes_of 2 d.day in
     let kind : List ℕ = d.kind ∷ d.mark ∷ [] in
     let minute = bytes_of 2 d.minute in
-    let zeros : List ℕ = 0 ∷ 0 ∷ [] in
+    let zeros = bytes_of 2 0 in
     let low = bytes_of 8 d.low in
     let high = bytes_of 8 d.high in
     rw (put_join s 0 day 2 kind refl (omega arith), put_join s 0 (day ++ kind) 4 minute refl (omega arith), put_join s 0 (day ++ kind ++ minute) 6 zeros refl (omega arith), put_join s 0 (day ++ kind ++ minute ++ zeros) 8 low refl (omega arith), put_join s 0 (day ++ kind ++ minute ++ zeros ++ low) 16 high refl (omega arith)) refl

@@ -26,7 +26,7 @@ at_place p b i k q =
     rw (x, y)
 
 -- some of the first a, or some of the m behind them
-any_split : (q : ℕ → Bool) (a m : ℕ) → any_below (a + m) q ≡ (any_below a q || any_below m (λ k. q (a + k)))
+pub any_split : (q : ℕ → Bool) (a m : ℕ) → any_below (a + m) q ≡ (any_below a q || any_below m (λ k. q (a + k)))
 any_split q a zero = let e : a + 0 ≡ a = omega arith in rw (e, any_zero (λ k. q (a + k))) (sym (or_false (any_below a q)))
 any_split q a (suc m) =
     let e : a + suc m ≡ a + m + 1 = omega arith in

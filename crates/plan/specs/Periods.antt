@@ -1,6 +1,8 @@
 -- A plan is the list of its bytes; a block of it goes by its number, a period by the number of its first block.
 use Rattle.std.specs.Prelude.{ℕ, ◌+◌, ◌*◌, ◌/◌, ◌%◌, Bool, cond, not, List, eqb, length, take, drop}
 use Rattle.below.specs.Below.{any_below, first_below}
+use Rattle.plan.specs.declared.Class.{Class}
+use Rattle.plan.specs.declared.Class.TheVariants.{Empty, Fixed, Need, Mixed}
 use Rattle.plan.specs.declared.Dose.{Dose}
 use Rattle.plan.specs.Fields.{kind_of, count_of, record_at, dose_of, is_marked}
 
@@ -40,20 +42,8 @@ unfoldable pub has_marked : List ℕ → ℕ → Bool
 has_marked p b = any_below (doses_of p b) (λ j. is_marked (dose_in p b j))
 
 -- "A period with dose records is fixed (none marked), need (all marked) or mixed (both); one without is empty"
-abbrev pub empty : ℕ
-empty = 0
+abbrev pub class_by : Bool → Bool → Class
+class_by unmarked marked = cond unmarked (cond marked Mixed Fixed) (cond marked Need Empty)
 
-abbrev pub fixed : ℕ
-fixed = 1
-
-abbrev pub need : ℕ
-need = 2
-
-abbrev pub mixed : ℕ
-mixed = 3
-
-abbrev pub class_by : Bool → Bool → ℕ
-class_by unmarked marked = cond unmarked (cond marked mixed fixed) (cond marked need empty)
-
-unfoldable pub class_of : List ℕ → ℕ → ℕ
+unfoldable pub class_of : List ℕ → ℕ → Class
 class_of p b = class_by (has_unmarked p b) (has_marked p b)

@@ -3,10 +3,18 @@ ghost use Rattle.std.specs.Prelude.{◌≡◌};
 ghost use Rattle.plan.specs.Fields.{kind_of, count_of, interval_of, first_of, end_of, last_of, header_of, unit_of, plan_number_of, revision_of, vka_of};
 
 use crate::Header;
+use crate::part::part_of;
 use block::{byte_at, half_at, word_at};
 use day::Day;
 
-// 1 for a head, 2 for a period, 3 for a continuation.
+// The kinds of a block.
+pub const HEAD: u8 = 1;
+
+pub const PERIOD: u8 = 2;
+
+pub const CONTINUATION: u8 = 3;
+
+// The kind, of which there may be others.
 pub fn kind_of(r: &[u8]) -> u8
     ensures { result ≡ kind_of r.now }
 {
@@ -45,26 +53,18 @@ pub fn end_of(r: &[u8]) -> u32
 pub fn last_of(r: &[u8]) -> u32
     ensures { result ≡ last_of r.now }
 {
-    let last = Day::new(end_of(r)).closed();
-    last.number
+    Day::new(end_of(r)).closed().number
 }
 
 // The interval and both days together: of a part of known length they are read behind one test instead of three.
 pub fn header_of(r: &[u8]) -> Header
     ensures { result ≡ header_of r.now }
 {
-    if 12 <= r.len() {
-        let h = &r[..12];
-        return Header {
-            interval: half_at(h, 2),
-            first: word_at(h, 4),
-            end: word_at(h, 8),
-        };
-    }
+    let h = part_of(r, 0, 12);
     Header {
-        interval: interval_of(r),
-        first: first_of(r),
-        end: end_of(r),
+        interval: interval_of(h),
+        first: first_of(h),
+        end: end_of(h),
     }
 }
 

@@ -2,21 +2,31 @@
 // what lies past their end reads as 0.
 #![tactic(auto)]
 
+mod classes;
 mod fields;
+mod part;
 mod periods;
 mod records;
 
+pub use classes::class_by;
 pub use fields::{
-    count_of, end_of, first_of, header_of, interval_of, kind_of, last_of, plan_number_of,
-    revision_of, unit_of, vka_of,
+    CONTINUATION, HEAD, PERIOD, count_of, end_of, first_of, header_of, interval_of, kind_of,
+    last_of, plan_number_of, revision_of, unit_of, vka_of,
 };
-pub use periods::{
-    block_of, class_by, class_of, dose_in, doses_here, doses_of, is_period, more_blocks,
-};
+pub use periods::{block_of, class_of, dose_in, doses_here, doses_of, is_period, more_blocks};
 pub use records::{
     RECORD, copy_dose, dose_at, dose_of, is_marked, is_record_marked, open_record, record_of,
     record_start, upper_of, write_dose,
 };
+
+// What doses a period has: none, unmarked ones, marked ones, or both.
+#[derive(Clone, Copy, PartialEq, Eq, Debug)]
+pub enum Class {
+    Empty,
+    Fixed,
+    Need,
+    Mixed,
+}
 
 // A dose record.
 #[derive(Clone, Copy)]

@@ -3,6 +3,7 @@ ghost use Rattle.std.specs.Prelude.{◌≡◌, ◌≤◌, ◌<◌, length};
 ghost use Rattle.block.specs.Bytes.{put};
 ghost use Rattle.plan.specs.Fields.{record_start, record_at, dose_of, spare_of, dose_bytes, is_marked, upper_of};
 
+use crate::part::part_of;
 use crate::{Dose, Opened};
 use block::{
     byte_at, half_at, long_at, longs_at, put_bytes, put_half, put_long, put_word, word_at,
@@ -22,15 +23,7 @@ pub fn record_start(i: u8) -> usize
 pub fn record_of(r: &[u8], i: u8) -> &[u8]
     ensures { result.now ≡ record_at r.now i }
 {
-    let at = record_start(i);
-    let end = at + RECORD;
-    if end <= r.len() {
-        return &r[at..end];
-    }
-    if at <= r.len() {
-        return &r[at..];
-    }
-    &r[..0]
+    part_of(r, record_start(i), RECORD)
 }
 
 // A record as it is read. Its first eight bytes make one number.
@@ -38,17 +31,17 @@ pub fn open_record(record: &[u8]) -> Opened
     ensures { (result.dose ≡ dose_of «record».now) × (result.spare ≡ spare_of «record».now) }
 {
     let x = longs_at(record, 0);
-    let w = x.first;
+    let [d0, d1, kind, mark, m0, m1, s0, s1] = x.first.to_le_bytes();
     Opened {
         dose: Dose {
-            day: (w % 65536) as u16,
-            kind: (w / 65536 % 256) as u8,
-            mark: (w / 16777216 % 256) as u8,
-            minute: (w / 4294967296 % 65536) as u16,
+            day: u16::from_le_bytes([d0, d1]),
+            kind,
+            mark,
+            minute: u16::from_le_bytes([m0, m1]),
             low: x.second,
             high: x.third,
         },
-        spare: (w / 281474976710656) as u16,
+        spare: u16::from_le_bytes([s0, s1]),
     }
 }
 
@@ -89,12 +82,10 @@ pub fn write_dose(record: &mut [u8], dose: Dose)
     if record.len() < RECORD {
         return;
     }
-    let when = [dose.kind, dose.mark];
-    let none = [0, 0];
     put_half(&mut *record, 0, dose.day);
-    put_bytes(&mut *record, 2, &when);
+    put_bytes(&mut *record, 2, &[dose.kind, dose.mark]);
     put_half(&mut *record, 4, dose.minute);
-    put_bytes(&mut *record, 6, &none);
+    put_half(&mut *record, 6, 0);
     put_long(&mut *record, 8, dose.low);
     put_long(&mut *record, 16, dose.high);
 }

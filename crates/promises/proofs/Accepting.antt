@@ -1,5 +1,6 @@
 -- Demand 2 of the verdict: accepted exactly when no rule is broken, and otherwise the lowest rule and its lowest block. Assumes
 -- nothing.
+use Rattle.std.specs.Prelude.{Err, Ok}
 use Prim.Native.Nat.{ℕ, ◌<◌}
 use mathlib.Core.Bool.{true, false}
 use mathlib.Core.List.{List}
@@ -13,13 +14,12 @@ use Rattle.below.proofs.Tests.{bool_cases, true_not_false, le_or_lt, same_or_not
 use Rattle.form.specs.Form.{bad_length}
 use Rattle.plan.specs.Periods.{blocks_of}
 use Rattle.refusal.proofs.Order.{passed_lowest, block_facts, block_some, block_hit}
-use Rattle.refusal.specs.Refusals.{has_no_place, nowhere, rule_at}
+use Rattle.refusal.specs.Refusals.{has_no_place, nowhere, rule_at, refusal_in}
 use Rattle.refusal.specs.declared.Refusal.{Refusal}
 use Rattle.register.proofs.LawDone.{broken_number}
 use Rattle.verdict.proofs.Exactly.{NoRuleBroken, accepted_where, accepted_only}
-use Rattle.verdict.specs.Verdict.{plan_limit, breaks, first_rule, first_block, verdict_of, refusal_of}
-use Rattle.verdict.specs.declared.Answer.{Answer}
-use Rattle.verdict.specs.declared.Answer.TheVariants.{Accepted, Broken}
+use Rattle.verdict.specs.Verdict.{plan_limit, breaks, first_rule, first_block, verdict_of}
+use Rattle.verdict.specs.Answers.{Answer}
 use Rattle.promises.specs.Demand2.{IsAccepted, IsLowest, Verdicts}
 use Rattle.promises.specs.Orders.{is_broken}
 use Rattle.promises.proofs.Orders.{some, no_rule, no_row}
@@ -48,9 +48,9 @@ module _ (p : List ℕ) where
       (same_or_not k 1)
 
   -- number 0 is of an accepted plan alone
-  pub zero_accepted : (a : Answer) → verdict_of p ≡ a → (refusal_of a).number ≡ 0 → NoRuleBroken p
-  zero_accepted (Accepted n) e z = accepted_only p e
-  zero_accepted (Broken q) e z = absurd (true_not_false (eq-eqb q.number 0 z) (broken_number p q e))
+  pub zero_accepted : (a : Answer) → verdict_of p ≡ a → (refusal_in a).number ≡ 0 → NoRuleBroken p
+  zero_accepted (Ok n) e z = accepted_only p e
+  zero_accepted (Err q) e z = absurd (true_not_false (eq-eqb q.number 0 z) (broken_number p q e))
 
   pub accepted_none : IsAccepted p → NoRuleBroken p
   accepted_none e = zero_accepted (verdict_of p) refl (ap (λ (x : Refusal). x.number) e)
@@ -85,7 +85,7 @@ module _ (p : List ℕ) where
         at_block = λ e. rw e (q, f.here q, f.before);
       }
 
-  lowest_only : ((refusal_of (verdict_of p)).number ≡ 0 → ⊥) → IsLowest p (refusal_of (verdict_of p)).number (refusal_of (verdict_of p)).place
+  lowest_only : ((refusal_in (verdict_of p)).number ≡ 0 → ⊥) → IsLowest p (refusal_in (verdict_of p)).number (refusal_in (verdict_of p)).place
   unfolding verdict_of
   lowest_only h =
       ⊎_elim
@@ -121,9 +121,9 @@ module _ {p : List ℕ} {j k a b : ℕ} (x : IsLowest p j a) (y : IsLowest p k b
       (le_or_lt a b))
       (bool_cases (has_no_place j))
 
-lowest_where : (p : List ℕ) (k b : ℕ) → IsLowest p k b → refusal_of (verdict_of p) ≡ record { number = k; place = b }
+lowest_where : (p : List ℕ) (k b : ℕ) → IsLowest p k b → refusal_in (verdict_of p) ≡ record { number = k; place = b }
 lowest_where p k b x =
-    let some_rule : (refusal_of (verdict_of p)).number ≡ 0 → ⊥ =
+    let some_rule : (refusal_in (verdict_of p)).number ≡ 0 → ⊥ =
     λ z. true_not_false x.broken (none_unbroken p (zero_accepted p (verdict_of p) refl z) k x.rule) in
     let y = lowest_only p some_rule in
     λ i. record { number = one_rule y x i; place = one_place y x i }
@@ -131,7 +131,7 @@ lowest_where p k b x =
 pub verdicts : Verdicts
 verdicts =
     record {
-      accepted_where = λ p h. ap refusal_of (accepted_where p (unbroken_none p h));
+      accepted_where = λ p h. ap refusal_in (accepted_where p (unbroken_none p h));
       accepted_only = λ p e. none_unbroken p (accepted_none p e);
       broken_where = lowest_where;
       broken_only = lowest_only;

@@ -1,4 +1,5 @@
 -- The sets of dates of the witnesses, from bytes and through the verdict. Assumes nothing.
+use Rattle.std.specs.Prelude.{Ok}
 use Prim.Native.Nat.{ℕ}
 use mathlib.Core.Bool.{false}
 use mathlib.Core.List.{List, []}
@@ -19,10 +20,7 @@ use Rattle.supply.specs.Covered.{covered}
 use Rattle.supply.specs.Dates.{has_interval, is_ranging, is_needed, date_by, set_of, set_by, dates_of, packed_dates_of}
 use Rattle.supply.specs.Supply.{lasting_of, asked_by, own_by, judged_of, supply_of}
 use Rattle.supply.specs.declared.Dates.{Dates}
-use Rattle.supply.specs.declared.DateSet.TheVariants.{Given}
-use Rattle.supply.specs.declared.Supply.TheVariants.{Lasts}
 use Rattle.verdict.specs.Verdict.{verdict_of}
-use Rattle.verdict.specs.declared.Answer.TheVariants.{Accepted}
 use Rattle.promises.specs.Cases.{one_daily}
 use Rattle.promises.specs.Plans.{head, unmarked, marked, ranging, daily, plan, revision}
 use Rattle.promises.specs.Sets.{NeedOnly}
@@ -40,17 +38,17 @@ dates_of_need = record { end = open_mark; minimum = open_mark; maximum = open_ma
 
 -- behind the verdict, with a list of pauses and with packed ones
 record Computed (ws : List Written) (pack : ℕ) (x : Dates) : Type 0 where
-  set : set_by (Accepted 0) (asked_by 8077 pack (are_out []) 0) (set_of (is_ranging 8077 (plan ws)) (is_needed 8077 (plan ws)) (date_by (λ c. judged_of (plan ws) 8077 pack c (are_out []) []))) ≡ Given x
+  set : set_by (Ok 0) (asked_by 8077 pack (are_out []) 0) (set_of (is_ranging 8077 (plan ws)) (is_needed 8077 (plan ws)) (date_by (λ c. judged_of (plan ws) 8077 pack c (are_out []) []))) ≡ Ok x
   packed_set :
-      set_by (Accepted 0) (asked_by 8077 pack (are_out (pauses_in [])) 0) (set_of (is_ranging 8077 (plan ws)) (is_needed 8077 (plan ws)) (date_by (λ c. judged_of (plan ws) 8077 pack c (are_out (pauses_in [])) (pauses_in []))))
-      ≡ Given x
+      set_by (Ok 0) (asked_by 8077 pack (are_out (pauses_in [])) 0) (set_of (is_ranging 8077 (plan ws)) (is_needed 8077 (plan ws)) (date_by (λ c. judged_of (plan ws) 8077 pack c (are_out (pauses_in [])) (pauses_in []))))
+      ≡ Ok x
 
 record All : Type 0 where
   kinds : Computed both_kinds 1200 dates_of_four
   end : Computed one_daily 50000 date_of_end
   needs : Computed only_need 1200 dates_of_need
-  both : judged_of (plan both_kinds) 8077 1200 3 (are_out []) [] ≡ Lasts (record { days = 2; last = 8078; rest = 200; reason = 1 })
-  needed : judged_of (plan both_kinds) 8077 1200 4 (are_out []) [] ≡ Lasts (record { days = 4; last = 8080; rest = 0; reason = 1 })
+  both : judged_of (plan both_kinds) 8077 1200 3 (are_out []) [] ≡ Ok (record { days = 2; last = 8078; rest = 200; reason = 1 })
+  needed : judged_of (plan both_kinds) 8077 1200 4 (are_out []) [] ≡ Ok (record { days = 4; last = 8080; rest = 0; reason = 1 })
   none_fixed : has_stop 1 (plan only_need) ≡ false
 
 all : All
@@ -66,35 +64,35 @@ all =
     }
 
 -- through it
-module _ {ws : List Written} {pack n : ℕ} {x : Dates} (e : verdict_of (plan ws) ≡ Accepted n) (c : Computed ws pack x) where
-  through : dates_of (plan ws) 8077 pack [] ≡ Given x
+module _ {ws : List Written} {pack n : ℕ} {x : Dates} (e : verdict_of (plan ws) ≡ Ok n) (c : Computed ws pack x) where
+  through : dates_of (plan ws) 8077 pack [] ≡ Ok x
   through = rw e c.set
 
-  packed_through : packed_dates_of (plan ws) 8077 pack [] ≡ Given x
+  packed_through : packed_dates_of (plan ws) 8077 pack [] ≡ Ok x
   packed_through = rw e c.packed_set
 
-pub four_dates : dates_of (plan both_kinds) 8077 1200 [] ≡ Given dates_of_four
+pub four_dates : dates_of (plan both_kinds) 8077 1200 [] ≡ Ok dates_of_four
 four_dates = through kinds_accepted all.kinds
 
-pub end_date : dates_of (plan one_daily) 8077 50000 [] ≡ Given date_of_end
+pub end_date : dates_of (plan one_daily) 8077 50000 [] ≡ Ok date_of_end
 end_date = through one_accepted all.end
 
-pub need_dates : dates_of (plan only_need) 8077 1200 [] ≡ Given dates_of_need
+pub need_dates : dates_of (plan only_need) 8077 1200 [] ≡ Ok dates_of_need
 need_dates = through needs_accepted all.needs
 
-pub packed_four_dates : packed_dates_of (plan both_kinds) 8077 1200 [] ≡ Given dates_of_four
+pub packed_four_dates : packed_dates_of (plan both_kinds) 8077 1200 [] ≡ Ok dates_of_four
 packed_four_dates = packed_through kinds_accepted all.kinds
 
-pub packed_end_date : packed_dates_of (plan one_daily) 8077 50000 [] ≡ Given date_of_end
+pub packed_end_date : packed_dates_of (plan one_daily) 8077 50000 [] ≡ Ok date_of_end
 packed_end_date = packed_through one_accepted all.end
 
-pub packed_need_dates : packed_dates_of (plan only_need) 8077 1200 [] ≡ Given dates_of_need
+pub packed_need_dates : packed_dates_of (plan only_need) 8077 1200 [] ≡ Ok dates_of_need
 packed_need_dates = packed_through needs_accepted all.needs
 
-pub by_both : supply_of (plan both_kinds) 8077 1200 3 [] ≡ Lasts (record { days = 2; last = 8078; rest = 200; reason = 1 })
+pub by_both : supply_of (plan both_kinds) 8077 1200 3 [] ≡ Ok (record { days = 2; last = 8078; rest = 200; reason = 1 })
 by_both = rw kinds_accepted all.both
 
-pub by_needed : supply_of (plan both_kinds) 8077 1200 4 [] ≡ Lasts (record { days = 4; last = 8080; rest = 0; reason = 1 })
+pub by_needed : supply_of (plan both_kinds) 8077 1200 4 [] ≡ Ok (record { days = 4; last = 8080; rest = 0; reason = 1 })
 by_needed = rw kinds_accepted all.needed
 
 -- the need-only plan has no fixed or mixed period

@@ -1,4 +1,5 @@
 -- A term of demand 1. Assumes nothing.
+use Rattle.std.specs.Prelude.{Err, Ok}
 use Prim.Native.Nat.{ℕ, ◌%◌, ◌<◌}
 use mathlib.Core.Bool.{Bool, true, false, cond, not, ◌||◌}
 use mathlib.Core.List.{List}
@@ -14,30 +15,26 @@ use Rattle.doses.specs.Doses.{day_sums}
 use Rattle.pause.specs.Pauses.{are_out, pauses_in}
 use Rattle.pause.specs.declared.Pause.{Pause}
 use Rattle.plan.specs.Fields.{plan_number_of}
-use Rattle.refusal.specs.Refusals.{alone, code_of}
+use Rattle.refusal.specs.Refusals.{alone, code_of, refusal_in}
 use Rattle.refusal.specs.declared.Refusal.{Refusal}
 use Rattle.register.proofs.Kept.{after_refused}
 use Rattle.register.proofs.Reached.{answered_done}
 use Rattle.register.specs.Slots.{room_size, slots_of, first_signer, second_signer, is_held, slot_under, plan_under}
 use Rattle.register.specs.Sound.{sound}
 use Rattle.register.specs.Steps.{Call, Call.clear, Call.submit, Call.sign, Call.release, Call.drop, Call.state, is_done, unless_broken, is_stale, is_full, same, refused_by, given, answered, after, room_after}
-use Rattle.screen.specs.Calls.{too_short, code26, supply_code, supply_out, dates_code, dates_out, split_code, split_out, stretch_out, sums_out}
+use Rattle.screen.specs.Calls.{too_short, code26, supply_out, dates_out, split_out, stretch_out, sums_out}
 use Rattle.showing.specs.Showing.{stretch_of}
 use Rattle.split.specs.Parts.{part_bytes}
-use Rattle.split.specs.Split.{too_small, lengths_of, split_by, split_of, refusal_in, left_by}
-use Rattle.split.specs.declared.Parted.{Parted}
-use Rattle.split.specs.declared.Parted.TheVariants as split
+use Rattle.split.specs.Split.{too_small, lengths_of, split_by, split_of, left_by}
+use Rattle.split.specs.Answers.{Parted}
 use Rattle.need.specs.Need.{is_choice, stop_day, has_stop}
-use Rattle.supply.specs.Dates.{set_by, refusal_in_set, packed_dates_of}
-use Rattle.supply.specs.Supply.{asked_by, own_by, refused_by as supplyRefusedBy, judged_of, passed_on, packed_supply_of, refusal_in as supplyRefusal}
+use Rattle.supply.specs.Dates.{set_by, packed_dates_of}
+use Rattle.supply.specs.Supply.{asked_by, own_by, refused_by as supplyRefusedBy, judged_of, passed_on, packed_supply_of}
 use Rattle.supply.specs.declared.Dates.{Dates}
-use Rattle.supply.specs.declared.DateSet.{DateSet}
-use Rattle.supply.specs.declared.DateSet.TheVariants as set
-use Rattle.supply.specs.declared.Supply.{Supply}
-use Rattle.supply.specs.declared.Supply.TheVariants as supply
-use Rattle.verdict.specs.Verdict.{verdict_of, refusal_of}
-use Rattle.verdict.specs.declared.Answer.{Answer}
-use Rattle.verdict.specs.declared.Answer.TheVariants.{Accepted, Broken}
+use Rattle.supply.specs.Answers.{DateSet}
+use Rattle.supply.specs.Answers.{Supply}
+use Rattle.verdict.specs.Verdict.{verdict_of}
+use Rattle.verdict.specs.Answers.{Answer}
 use Rattle.promises.specs.Demand1.{Refused, Placed, verdict_in, Calls, ScreenCalls, Demand1}
 use Rattle.promises.specs.Orders.{first_given}
 use Rattle.promises.proofs.Orders.{verdict_first, dates_first, supply_first, split_first, register_first}
@@ -53,9 +50,9 @@ placed_cond : (v : Refusal) (t : Bool) {x y : Refusal} → Placed v x → Placed
 placed_cond v true a b = a
 placed_cond v false a b = b
 
-placed_unless : (a : Answer) {x : Refusal} → Placed (refusal_of a) x → Placed (refusal_of a) (unless_broken a x)
-placed_unless (Accepted n) b = b
-placed_unless (Broken r) b = inl refl
+placed_unless : (a : Answer) {x : Refusal} → Placed (refusal_in a) x → Placed (refusal_in a) (unless_broken a x)
+placed_unless (Ok n) b = b
+placed_unless (Err r) b = inl refl
 
 -- supply's own numbers
 abbrev Far : ℕ → Type 0
@@ -71,9 +68,9 @@ far_asked start pack out h =
     far_cond (ltb 1000000000000 pack) (inr (omega arith)) (far_cond out (inr (omega arith)) (far_cond (not (is_day start)) (inr (omega arith)) h))
 
 -- the set of dates
-dates_placed : (a : Answer) (k : ℕ) (x : Dates) → Far k → Placed (refusal_of a) (refusal_in_set (set_by a k x))
-dates_placed (Broken r) k x h = inl refl
-dates_placed (Accepted n) k x h =
+dates_placed : (a : Answer) (k : ℕ) (x : Dates) → Far k → Placed (refusal_in a) (refusal_in (set_by a k x))
+dates_placed (Err r) k x h = inl refl
+dates_placed (Ok n) k x h =
     ⊎_elim
     (λ (t : eqb k 0 ≡ true). rw t (placed_done (alone 0)))
     (λ (t : eqb k 0 ≡ false). rw t (inr (refl, h)))
@@ -88,7 +85,7 @@ module _ (p : List ℕ) (start pack choice : ℕ) (out : Bool) (ps : List Pause)
       (far_cond (not (is_choice choice)) (inr (omega arith))
       (far_cond (not (has_stop choice p) || ltb (stop_day choice p) start) (inr (omega arith)) (inl refl)))
 
-  judged_placed : Placed (alone 0) (supplyRefusal (judged_of p start pack choice out ps))
+  judged_placed : Placed (alone 0) (refusal_in (judged_of p start pack choice out ps))
   unfolding judged_of
   judged_placed =
       let k = supplyRefusedBy start pack choice out (has_stop choice p) (stop_day choice p) in
@@ -97,19 +94,19 @@ module _ (p : List ℕ) (start pack choice : ℕ) (out : Bool) (ps : List Pause)
       (λ (t : eqb k 0 ≡ false). rw t (inr (refl, far)))
       (bool_cases (eqb k 0))
 
-  supply_placed : (a : Answer) → Placed (refusal_of a) (supplyRefusal (passed_on a (judged_of p start pack choice out ps)))
-  supply_placed (Broken r) = inl refl
-  supply_placed (Accepted n) = judged_placed
+  supply_placed : (a : Answer) → Placed (refusal_in a) (refusal_in (passed_on a (judged_of p start pack choice out ps)))
+  supply_placed (Err r) = inl refl
+  supply_placed (Ok n) = judged_placed
 
-split_placed : (a : Answer) (p fixed need : List ℕ) → Placed (refusal_of a) (refusal_in (split_by a p fixed need))
-split_placed (Broken r) p fixed need = inl refl
-split_placed (Accepted n) p fixed need = choice (too_small fixed need)
+split_placed : (a : Answer) (p fixed need : List ℕ) → Placed (refusal_in a) (refusal_in (split_by a p fixed need))
+split_placed (Err r) p fixed need = inl refl
+split_placed (Ok n) p fixed need = choice (too_small fixed need)
   where
-    choice : (t : Bool) → Placed (alone 0) (refusal_in (cond t (split.Refused (alone 25)) (split.Parts (lengths_of p))))
+    choice : (t : Bool) → Placed (alone 0) (refusal_in (cond t (Err (alone 25)) (Ok (lengths_of p))))
     choice true = placed_alone (alone 0) 25 (omega arith)
     choice false = placed_done (alone 0)
 
-split_place : (p fixed need : List ℕ) → Placed (refusal_of (verdict_of p)) (refusal_in (split_of p fixed need))
+split_place : (p fixed need : List ℕ) → Placed (refusal_in (verdict_of p)) (refusal_in (split_of p fixed need))
 unfolding split_of
 split_place p fixed need = split_placed (verdict_of p) p fixed need
 
@@ -117,13 +114,13 @@ refused_placed : (r : List ℕ) (c : Call) → Placed (verdict_in c) (refused_by
 unfolding refused_by
 refused_placed r clear = placed_cond _ (ltb 0 (slots_of r)) (placed_done _) (placed_alone _ 30 (omega arith))
 refused_placed r (submit p) =
-    let v = refusal_of (verdict_of p) in
+    let v = refusal_in (verdict_of p) in
     placed_cond v (not (sound r)) (placed_alone v 30 (omega arith))
     (placed_unless (verdict_of p)
     (placed_cond v (is_stale r p) (placed_alone v 32 (omega arith))
     (placed_cond v (is_full r p) (placed_alone v 31 (omega arith)) (placed_done v))))
 refused_placed r (sign signer p) =
-    let v = refusal_of (verdict_of p) in
+    let v = refusal_in (verdict_of p) in
     let n = plan_number_of p in
     placed_cond v (not (sound r)) (placed_alone v 30 (omega arith))
     (placed_cond v (eqb signer 0) (placed_alone v 35 (omega arith))
@@ -164,8 +161,8 @@ not_done x h = not_true_false (is_done x) (λ t. h (eqb-true _ _ t))
 
 -- split's buffers
 left_same : (x : Parted) → Refused (refusal_in x) → (part out : List ℕ) → left_by x part out ≡ out
-left_same (split.Parts n) h part out = absurd (h refl)
-left_same (split.Refused r) h part out = refl
+left_same (Ok n) h part out = absurd (h refl)
+left_same (Err r) h part out = refl
 
 module _ (r : List ℕ) (c : Call) (h : Refused (answered r c).refusal) where
   refused_so : is_done (refused_by r c) ≡ false
@@ -219,56 +216,44 @@ module _ (n : ℕ) (out : List ℕ) (x : Refusal) where
       (λ (t : too_short n out ≡ false). rw t (keeps (λ e. h (rw t e))))
       (bool_cases (too_short n out))
 
-supply_code_lem : (x : Supply) → supply_code x ≡ code_of (supplyRefusal x)
-supply_code_lem (supply.Lasts y) = refl
-supply_code_lem (supply.Refused r) = refl
+supply_same : (x : Supply) (out : List ℕ) → Refused (refusal_in x) → supply_out out x ≡ out
+supply_same (Ok y) out h = absurd (h refl)
+supply_same (Err r) out h = refl
 
-supply_same : (x : Supply) (out : List ℕ) → Refused (supplyRefusal x) → supply_out out x ≡ out
-supply_same (supply.Lasts y) out h = absurd (h refl)
-supply_same (supply.Refused r) out h = refl
-
-dates_code_lem : (x : DateSet) → dates_code x ≡ code_of (refusal_in_set x)
-dates_code_lem (set.Given y) = refl
-dates_code_lem (set.Refused r) = refl
-
-dates_same : (x : DateSet) (out : List ℕ) → Refused (refusal_in_set x) → dates_out out x ≡ out
-dates_same (set.Given y) out h = absurd (h refl)
-dates_same (set.Refused r) out h = refl
-
-split_code_lem : (x : Parted) → split_code x ≡ code_of (refusal_in x)
-split_code_lem (split.Parts n) = refl
-split_code_lem (split.Refused r) = refl
+dates_same : (x : DateSet) (out : List ℕ) → Refused (refusal_in x) → dates_out out x ≡ out
+dates_same (Ok y) out h = absurd (h refl)
+dates_same (Err r) out h = refl
 
 split_same : (x : Parted) (out : List ℕ) → Refused (refusal_in x) → split_out out x ≡ out
-split_same (split.Parts n) out h = absurd (h refl)
-split_same (split.Refused r) out h = refl
+split_same (Ok n) out h = absurd (h refl)
+split_same (Err r) out h = refl
 
-sums_same : (a : Answer) (s : List (List ℕ)) (out : List ℕ) → Refused (refusal_of a) → sums_out out a s ≡ out
-sums_same (Accepted n) s out h = absurd (h refl)
-sums_same (Broken r) s out h = refl
+sums_same : (a : Answer) (s : List (List ℕ)) (out : List ℕ) → Refused (refusal_in a) → sums_out out a s ≡ out
+sums_same (Ok n) s out h = absurd (h refl)
+sums_same (Err r) s out h = refl
 
 screen : ScreenCalls
 unfolding first_given
 screen =
     record {
-      verdict = λ p. record { refusal = refusal_of (verdict_of p); code_is = refl; in_order = verdict_first p; place = inl refl; keeps = λ h. tt };
+      verdict = λ p. record { refusal = refusal_in (verdict_of p); code_is = refl; in_order = verdict_first p; place = inl refl; keeps = λ h. tt };
       supply = λ p start pack choice s out.
           let x = packed_supply_of p start pack choice s in
-          let r = supplyRefusal x in
+          let r = refusal_in x in
           record {
             refusal = screen_refusal 32 out r;
-            code_is = screen_code 32 out r (supply_code_lem x);
+            code_is = screen_code 32 out r refl;
             in_order = screen_number 32 out r (supply_first p start pack choice (not (eqb (length s % 8) 0) || are_out (pauses_in s)) (pauses_in s));
             place = screen_placed 32 out r (supply_placed p start pack choice (not (eqb (length s % 8) 0) || are_out (pauses_in s)) (pauses_in s) (verdict_of p));
             keeps = screen_keeps 32 out r out (supply_out out x) (supply_same x out);
           };
       dates = λ p start pack s out.
           let x = packed_dates_of p start pack s in
-          let r = refusal_in_set x in
+          let r = refusal_in x in
           let bad = not (eqb (length s % 8) 0) || are_out (pauses_in s) in
           record {
             refusal = screen_refusal 40 out r;
-            code_is = screen_code 40 out r (dates_code_lem x);
+            code_is = screen_code 40 out r refl;
             in_order = screen_number 40 out r (dates_first p start pack bad _);
             place = screen_placed 40 out r (dates_placed (verdict_of p) (asked_by start pack bad 0) _ (far_asked start pack bad (inl refl)));
             keeps = screen_keeps 40 out r out (dates_out out x) (dates_same x out);
@@ -278,7 +263,7 @@ screen =
           let r = refusal_in x in
           record {
             refusal = screen_refusal 16 out r;
-            code_is = screen_code 16 out r (split_code_lem x);
+            code_is = screen_code 16 out r refl;
             in_order = screen_number 16 out r (split_first p fixed need);
             place = screen_placed 16 out r (split_place p fixed need);
             keeps = λ h. (
@@ -296,7 +281,7 @@ screen =
             keeps = screen_keeps 16 out (alone 0) out (stretch_out out (stretch_of fixed need list day)) (λ h. absurd (h refl));
           };
       day_sums_lem = λ p day out.
-          let r = refusal_of (verdict_of p) in
+          let r = refusal_in (verdict_of p) in
           record {
             refusal = screen_refusal 32 out r;
             code_is = screen_code 32 out r refl;

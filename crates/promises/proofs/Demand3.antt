@@ -1,4 +1,6 @@
 -- A term of demand 3. Assumes nothing.
+use Rattle.refusal.specs.Refusals.{refusal_in}
+use Rattle.std.specs.Prelude.{Err, Ok}
 use Prim.Native.Nat.{ℕ, ◌+◌, ◌-◌, ◌%◌, ◌≤◌, ◌<◌}
 use mathlib.Core.Bool.{Bool, true, false, not, ◌||◌}
 use mathlib.Core.List.{List}
@@ -18,34 +20,31 @@ use Rattle.register.proofs.Promise.{slot_promise}
 use Rattle.split.proofs.Days.{part_doses}
 use Rattle.split.proofs.Kept.{accepted_kept}
 use Rattle.split.specs.Parts.{part_bytes}
-use Rattle.split.specs.Split.{too_small, lengths_of, split_of, refusal_in, over}
-use Rattle.split.specs.declared.Parted.TheVariants.{Parts}
+use Rattle.split.specs.Split.{too_small, lengths_of, split_of, over}
 use Rattle.supply.proofs.Covering.{supplied}
 use Rattle.supply.proofs.Refusing.{stop_day_in}
 use Rattle.need.specs.Need.{due_on, need_on, stop_day}
 use Rattle.supply.specs.Covered.{covered}
 use Rattle.supply.specs.Supply.{lasting_of, judged_of, passed_on}
 use Rattle.supply.specs.declared.Lasting.{Lasting}
-use Rattle.supply.specs.declared.Supply.TheVariants.{Lasts}
 use Rattle.verdict.proofs.Exactly.{accepted_only}
 use Rattle.verdict.specs.Verdict.{verdict_of}
-use Rattle.verdict.specs.declared.Answer.{Answer}
-use Rattle.verdict.specs.declared.Answer.TheVariants.{Accepted, Broken}
+use Rattle.verdict.specs.Answers.{Answer}
 use Rattle.promises.specs.Demand3.{Splitting, Covers, Demand3}
 use Rattle.promises.proofs.LastDays.{answers}
 
 -- a split that is not refused
 record Parted0 (p fixed need : List ℕ) : Type 0 where
-  accepted : (n : ℕ) × (verdict_of p ≡ Accepted n)
-  parts : split_of p fixed need ≡ Parts (lengths_of p)
+  accepted : (n : ℕ) × (verdict_of p ≡ Ok n)
+  parts : split_of p fixed need ≡ Ok (lengths_of p)
 
 parted : (p fixed need : List ℕ) → (refusal_in (split_of p fixed need)).number ≡ 0 → Parted0 p fixed need
 unfolding split_of
 parted p fixed need e = by_verdict (verdict_of p) refl
   where
     by_verdict : (a : Answer) → verdict_of p ≡ a → Parted0 p fixed need
-    by_verdict (Broken r) v = absurd (true_not_false (eq-eqb r.number 0 (rw v at e)) (broken_number p r v))
-    by_verdict (Accepted n) v =
+    by_verdict (Err r) v = absurd (true_not_false (eq-eqb r.number 0 (rw v at e)) (broken_number p r v))
+    by_verdict (Ok n) v =
         ⊎_elim
         (λ (t : too_small fixed need ≡ true). absurd (let z : 25 ≡ 0 = rw (v, t) at e in omega arith))
         (λ (t : too_small fixed need ≡ false). record { accepted = (n, v); parts = rw (v, t) })
@@ -65,7 +64,7 @@ splitting p fixed need bytes e d l =
 
 -- how far a pack goes
 covers : (p : List ℕ) (start pack choice : ℕ) (out : Bool) (ps : List Pause) (x : Lasting) →
-    passed_on (verdict_of p) (judged_of p start pack choice out ps) ≡ Lasts x → Covers p start pack choice ps x
+    passed_on (verdict_of p) (judged_of p start pack choice out ps) ≡ Ok x → Covers p start pack choice ps x
 unfolding lasting_of need_on due_on
 covers p start pack choice out ps x e =
     let a = answers p start pack choice out ps x e in

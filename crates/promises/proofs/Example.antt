@@ -7,6 +7,7 @@ use native.Mathlib.Omega.{arith}
 use lib.Dec.{leb}
 use lib.ListN.{length}
 use borrow.Author.Tests.{ne_eqb, le-ltb, le-leb}
+use Rattle.refusal.specs.Refusals.{refusal_in}
 use Rattle.below.specs.Below.{first_from, first_below, any_below, count_below, sum_below, largest_below}
 use Rattle.below.specs.Lists.{list_below, join_below, join_over, keep, Every, Every.none, Every.more}
 use Rattle.block.proofs.Numbers.{AreBytes}
@@ -27,7 +28,7 @@ use Rattle.plan.specs.declared.Dose.{Dose}
 use Rattle.split.specs.Parts.{next_dosed, shared_in, behind, brought_by, part_of}
 use Rattle.verdict.specs.Coverage.{bare, shares_with, shares, meets_at, meets, hole_at, is_member}
 use Rattle.verdict.specs.Code.Groups.{hole_after}
-use Rattle.verdict.specs.Verdict.{plan_limit, breaks, refusal_of}
+use Rattle.verdict.specs.Verdict.{plan_limit, breaks}
 use Rattle.promises.specs.Demand2.{IsAccepted}
 use Rattle.promises.specs.Example.{december, dose, four, two, period, mixed_head, mixed_periods, mixed_plan, line_of, line, Example}
 use Rattle.promises.proofs.Demand2.{demand2}
@@ -128,7 +129,7 @@ unfolding mixed_plan
 mixed_bytes = plan_are_bytes mixed_head head_fits head_ranged mixed_periods mixed_right computed.few
 
 mixed_accepted : IsAccepted mixed_plan
-mixed_accepted = ap refusal_of (is_accepted_lem mixed_formed computed.clear computed.after)
+mixed_accepted = ap refusal_in (is_accepted_lem mixed_formed computed.clear computed.after)
 
 pub example : Example
 example =

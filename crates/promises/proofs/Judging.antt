@@ -1,5 +1,6 @@
 -- The verdict on bytes of the right form, computed: rule 17 by the day after each period (verdict/proofs/DayAfter.antt), since
 -- the days of the whole calendar are too many to compute over. Assumes nothing.
+use Rattle.std.specs.Prelude.{Err, Ok}
 use Prim.Native.Nat.{ℕ, ◌+◌, ◌-◌, ◌≤◌, ◌<◌}
 use mathlib.Core.Bool.{Bool, true, false, ◌||◌}
 use mathlib.Core.List.{List}
@@ -20,7 +21,6 @@ use Rattle.verdict.specs.Coverage.{hole, holes}
 use Rattle.verdict.specs.Code.Groups.{hole_after}
 use Rattle.verdict.specs.Code.Ready.{Dated}
 use Rattle.verdict.specs.Verdict.{plan_limit, breaks, verdict_of}
-use Rattle.verdict.specs.declared.Answer.TheVariants.{Accepted, Broken}
 use Rattle.verdict.specs.declared.Group.TheVariants.{All, Fixed, Need}
 
 -- how many of the rules from 5 on, n at the most, are not broken before the first that is
@@ -47,7 +47,7 @@ module _ {p : List ℕ} (f : Formed plan_limit p) where
 
   -- the first rule that is broken, and the first block that breaks it
   pub is_broken_lem : (n : ℕ) → n < 13 → clear_from5 n p ≡ n → {b : ℕ} → first_below (blocks_of p) (breaks p (5 + n)) ≡ b → b < blocks_of p →
-      verdict_of p ≡ Broken (rule_at (5 + n) b)
+      verdict_of p ≡ Err (rule_at (5 + n) b)
   is_broken_lem n l e {b} z q =
       let g = first_facts (breaks p (5 + n)) (blocks_of p) in
       sym (broken_is p f.long (omega arith) (clear_to n e) q
@@ -66,12 +66,12 @@ module _ {p : List ℕ} (f : Formed plan_limit p) where
 
   -- rule 17, or none
   module _ (e : clear_from5 12 p ≡ 12) where
-    pub is_hole : 0 < blocks_of p → any_after p ≡ true → verdict_of p ≡ Broken (rule_at 17 0)
+    pub is_hole : 0 < blocks_of p → any_after p ≡ true → verdict_of p ≡ Err (rule_at 17 0)
     is_hole some t =
         let h : holes p ≡ true = holes_after ∙ t in
         sym (broken_is p f.long (omega arith) (clear_to 12 e) some (λ b l. absurd (omega arith)) (row_17 p 0 ∙ rw h))
 
-    pub is_accepted_lem : any_after p ≡ false → verdict_of p ≡ Accepted (length p)
+    pub is_accepted_lem : any_after p ≡ false → verdict_of p ≡ Ok (length p)
     is_accepted_lem t =
         let h : holes p ≡ false = holes_after ∙ t in
         let last : any_below (blocks_of p) (breaks p 17) ≡ false = any_none (breaks p 17) (λ b l. row_17 p b ∙ rw (h, and_false)) in

@@ -1,4 +1,5 @@
 -- What a supply that is not refused answers, and that its last day is the last covered one. Assumes nothing.
+use Rattle.std.specs.Prelude.{Err, Ok}
 use Prim.Native.Nat.{ℕ, ◌+◌, ◌-◌}
 use mathlib.Core.Bool.{Bool, true, false}
 use mathlib.Core.List.{List}
@@ -15,29 +16,27 @@ use Rattle.supply.proofs.Covering.{supplied}
 use Rattle.supply.proofs.Refusing.{Unrefused, unrefused}
 use Rattle.supply.specs.Supply.{lasting_of, refused_by, judged_of, passed_on}
 use Rattle.supply.specs.declared.Lasting.{Lasting}
-use Rattle.supply.specs.declared.Supply.TheVariants.{Lasts, Refused}
 use Rattle.verdict.specs.Verdict.{verdict_of}
-use Rattle.verdict.specs.declared.Answer.{Answer}
-use Rattle.verdict.specs.declared.Answer.TheVariants.{Accepted, Broken}
+use Rattle.verdict.specs.Answers.{Answer}
 use Rattle.promises.specs.Demand2.{LastCovered}
 
-not_both : {r : Refusal} {x : Lasting} → Refused r ≡ Lasts x → ⊥
+not_both : {r : Refusal} {x : Lasting} → Err r ≡ Ok x → ⊥
 not_both e = let z : ◌≡◌ {A = ℕ} 0 1 = cc in omega arith
 
 -- `out` says that 21 is due
 pub record Answers (p : List ℕ) (start pack choice : ℕ) (out : Bool) (ps : List Pause) (x : Lasting) : Type 0 where
-  pub accepted : (n : ℕ) × (verdict_of p ≡ Accepted n)
+  pub accepted : (n : ℕ) × (verdict_of p ≡ Ok n)
   pub unrefused : Unrefused start pack choice out (has_stop choice p) (stop_day choice p)
   pub lasting : lasting_of (need_on choice p ps) start (stop_day choice p) pack ≡ x
 
 pub answers : (p : List ℕ) (start pack choice : ℕ) (out : Bool) (ps : List Pause) (x : Lasting) →
-    passed_on (verdict_of p) (judged_of p start pack choice out ps) ≡ Lasts x → Answers p start pack choice out ps x
+    passed_on (verdict_of p) (judged_of p start pack choice out ps) ≡ Ok x → Answers p start pack choice out ps x
 unfolding judged_of
 answers p start pack choice out ps x e = by_verdict (verdict_of p) refl
   where
     by_verdict : (a : Answer) → verdict_of p ≡ a → Answers p start pack choice out ps x
-    by_verdict (Broken r) v = absurd (not_both (rw v at e))
-    by_verdict (Accepted n) v =
+    by_verdict (Err r) v = absurd (not_both (rw v at e))
+    by_verdict (Ok n) v =
         let number = refused_by start pack choice out (has_stop choice p) (stop_day choice p) in
         let f = rw v at e in
         ⊎_elim
@@ -52,7 +51,7 @@ answers p start pack choice out ps x e = by_verdict (verdict_of p) refl
         (bool_cases (eqb number 0))
 
 pub last_covered : (p : List ℕ) (start pack choice : ℕ) (out : Bool) (ps : List Pause) (x : Lasting) →
-    passed_on (verdict_of p) (judged_of p start pack choice out ps) ≡ Lasts x → LastCovered p start pack choice ps x
+    passed_on (verdict_of p) (judged_of p start pack choice out ps) ≡ Ok x → LastCovered p start pack choice ps x
 unfolding lasting_of
 last_covered p start pack choice out ps x e =
     let a = answers p start pack choice out ps x e in

@@ -1,9 +1,18 @@
 -- Two results that a contract allows are equal. Assumes nothing.
-use mathlib.Core.Path.{sym, ap, ◌∙◌}
+use Prim.Native.Nat.{ℕ}
+use mathlib.Core.Path.{◌≡◌, refl, sym, ap, ◌∙◌}
+use Rattle.std.specs.Prelude.{Option, Some, None, is_some, unwrap_or}
+use Rattle.below.proofs.Tests.{true_not_false}
 use Rattle.day.proofs.Inverse.{shows_one}
 use Rattle.register.proofs.Kept.{called_once}
-use Rattle.register.specs.Steps.{Answered}
 use Rattle.promises.specs.Once.{Once}
+
+-- what there is, and what it is, say which option it is
+same_option : (x y : Option ℕ) → is_some x ≡ is_some y → unwrap_or x 0 ≡ unwrap_or y 0 → x ≡ y
+same_option None None e f = refl
+same_option None (Some n) e f = absurd (true_not_false e refl)
+same_option (Some m) None e f = absurd (true_not_false refl e)
+same_option (Some m) (Some n) e f = ap Some f
 
 pub once : Once
 once =
@@ -14,13 +23,8 @@ once =
       longs = λ a b c x y u v i. record { first = (u.0 ∙ sym v.0) i; second = (u.1 ∙ sym v.1) i; third = (u.2 ∙ sym v.2) i };
       opened = λ d n x y u v i. record { dose = (u.0 ∙ sym v.0) i; spare = (u.1 ∙ sym v.1) i };
       judged = λ rule class x y u v i. record { rule = (u.0 ∙ sym v.0) i; class = (u.1 ∙ sym v.1) i };
-      classes = λ a cs x y u v i. record { answer = (u.0 ∙ sym v.0) i; classes = (u.1 ∙ sym v.1) i };
-      stop = λ any day x y u v i. record { any = (u.0 ∙ sym v.0) i; day = (u.1 ∙ sym v.1) i };
-      calls = λ r c x y s t u v. let e = called_once u v in (ap (λ (a : Answered). a.refusal) e.0, e.1);
-      releases = λ r c x y s t u v.
-          let e = called_once u v in
-          (λ i. record { refusal = (e.0 i).refusal; length = (e.0 i).length }, e.1);
-      states = λ r c x y s t u v.
-          let e = called_once u v in
-          (λ i. record { refusal = (e.0 i).refusal; revision = (e.0 i).revision; signers = (e.0 i).signers }, e.1);
+      stop = λ any day x y u v. same_option x y (u.0 ∙ sym v.0) (u.1 ∙ sym v.1);
+      calls = λ r c x y s t u v. called_once u v;
+      releases = λ r c x y s t u v. called_once u v;
+      states = λ r c x y s t u v. called_once u v;
     }

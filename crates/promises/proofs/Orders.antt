@@ -1,4 +1,5 @@
 -- The number of a refusal is the first in the set order that is given. Assumes nothing.
+use Rattle.std.specs.Prelude.{Err, Ok}
 use Prim.Native.Nat.{ℕ, zero, suc, ◌+◌, ◌<◌}
 use mathlib.Core.Bool.{Bool, true, false, cond, not}
 use mathlib.Core.List.{List, [], ◌∷◌}
@@ -16,22 +17,20 @@ use Rattle.pause.specs.declared.Pause.{Pause}
 use Rattle.plan.specs.Fields.{plan_number_of}
 use Rattle.plan.specs.Periods.{blocks_of}
 use Rattle.refusal.specs.Order.{lowest_rule}
-use Rattle.refusal.specs.Refusals.{alone}
+use Rattle.refusal.specs.Refusals.{alone, refusal_in}
 use Rattle.refusal.specs.declared.Refusal.{Refusal}
 use Rattle.register.proofs.LawDone.{broken_number}
 use Rattle.register.specs.Slots.{room_size, slots_of, first_signer, second_signer, is_held, slot_under, plan_under}
 use Rattle.register.specs.Sound.{sound}
 use Rattle.register.specs.Steps.{Call, Call.clear, Call.submit, Call.sign, Call.release, Call.drop, Call.state, is_done, unless_broken, is_stale, is_full, same, refused_by, given, answered}
-use Rattle.split.specs.Split.{too_small, lengths_of, split_by, split_of, refusal_in}
-use Rattle.split.specs.declared.Parted.TheVariants.{Parts, Refused}
+use Rattle.split.specs.Split.{too_small, lengths_of, split_by, split_of}
 use Rattle.need.specs.Need.{stop_day, has_stop}
-use Rattle.supply.specs.Dates.{set_by, refusal_in_set}
-use Rattle.supply.specs.Supply.{asked_by, own_by, refused_by as supplyRefusedBy, judged_of, passed_on, refusal_in as supplyRefusal}
+use Rattle.supply.specs.Dates.{set_by}
+use Rattle.supply.specs.Supply.{asked_by, own_by, refused_by as supplyRefusedBy, judged_of, passed_on}
 use Rattle.supply.specs.declared.Dates.{Dates}
-use Rattle.supply.specs.declared.Supply.{Supply}
-use Rattle.verdict.specs.Verdict.{plan_limit, breaks, first_rule, verdict_of, refusal_of}
-use Rattle.verdict.specs.declared.Answer.{Answer}
-use Rattle.verdict.specs.declared.Answer.TheVariants.{Accepted, Broken}
+use Rattle.supply.specs.Answers.{Supply}
+use Rattle.verdict.specs.Verdict.{plan_limit, breaks, first_rule, verdict_of}
+use Rattle.verdict.specs.Answers.{Answer}
 use Rattle.promises.specs.Orders.{first_given, rules, is_broken, dates_order, given_by_dates, supply_order, given_by_supply, split_order, given_by_split, order_of, given_by_call}
 
 -- n numbers from i on
@@ -84,7 +83,7 @@ module _ (p : List ℕ) where
   unfolding lowest_rule first_below first_from
   from_two = rw (no_rule, no_row)
 
-  pub verdict_first : (refusal_of (verdict_of p)).number ≡ first_given (is_broken p) rules
+  pub verdict_first : (refusal_in (verdict_of p)).number ≡ first_given (is_broken p) rules
   unfolding verdict_of first_given up_from
   verdict_first =
       ⊎_elim
@@ -98,47 +97,47 @@ module _ (p : List ℕ) where
       (bool_cases (bad_length plan_limit p))
 
   -- a call that passes the verdict's refusal on, and else has the number x
-  passed_on_lem : (x : ℕ) → chain (is_broken p) rules x ≡ cond (eqb (refusal_of (verdict_of p)).number 0) x (refusal_of (verdict_of p)).number
+  passed_on_lem : (x : ℕ) → chain (is_broken p) rules x ≡ cond (eqb (refusal_in (verdict_of p)).number 0) x (refusal_in (verdict_of p)).number
   passed_on_lem x = rw verdict_first (chain_rules (is_broken p) x)
 
 -- the number of what is passed on, and of a choice
-unless_number : (a : Answer) (x : Refusal) → ((q : Refusal) → a ≡ Broken q → eqb q.number 0 ≡ false) →
-    (unless_broken a x).number ≡ cond (eqb (refusal_of a).number 0) x.number (refusal_of a).number
-unless_number (Accepted n) x h = refl
-unless_number (Broken q) x h = rw (h q refl)
+unless_number : (a : Answer) (x : Refusal) → ((q : Refusal) → a ≡ Err q → eqb q.number 0 ≡ false) →
+    (unless_broken a x).number ≡ cond (eqb (refusal_in a).number 0) x.number (refusal_in a).number
+unless_number (Ok n) x h = refl
+unless_number (Err q) x h = rw (h q refl)
 
-supply_number : (a : Answer) (s : Supply) → ((q : Refusal) → a ≡ Broken q → eqb q.number 0 ≡ false) →
-    (supplyRefusal (passed_on a s)).number ≡ cond (eqb (refusal_of a).number 0) (supplyRefusal s).number (refusal_of a).number
-supply_number (Accepted n) s h = refl
-supply_number (Broken q) s h = rw (h q refl)
+supply_number : (a : Answer) (s : Supply) → ((q : Refusal) → a ≡ Err q → eqb q.number 0 ≡ false) →
+    (refusal_in (passed_on a s)).number ≡ cond (eqb (refusal_in a).number 0) (refusal_in s).number (refusal_in a).number
+supply_number (Ok n) s h = refl
+supply_number (Err q) s h = rw (h q refl)
 
-split_number : (a : Answer) (p fixed need : List ℕ) → ((q : Refusal) → a ≡ Broken q → eqb q.number 0 ≡ false) →
-    (refusal_in (split_by a p fixed need)).number ≡ cond (eqb (refusal_of a).number 0) (first_given (given_by_split p fixed need) (25 ∷ [])) (refusal_of a).number
+split_number : (a : Answer) (p fixed need : List ℕ) → ((q : Refusal) → a ≡ Err q → eqb q.number 0 ≡ false) →
+    (refusal_in (split_by a p fixed need)).number ≡ cond (eqb (refusal_in a).number 0) (first_given (given_by_split p fixed need) (25 ∷ [])) (refusal_in a).number
 unfolding first_given
-split_number (Accepted n) p fixed need h = choice (too_small fixed need)
+split_number (Ok n) p fixed need h = choice (too_small fixed need)
   where
-    choice : (t : Bool) → (refusal_in (cond t (Refused (alone 25)) (Parts (lengths_of p)))).number ≡ cond t 25 0
+    choice : (t : Bool) → (refusal_in (cond t (Err (alone 25)) (Ok (lengths_of p)))).number ≡ cond t 25 0
     choice true = refl
     choice false = refl
-split_number (Broken q) p fixed need h = rw (h q refl)
+split_number (Err q) p fixed need h = rw (h q refl)
 
 cond_number : (t : Bool) (x y : Refusal) → (cond t x y).number ≡ cond t x.number y.number
 cond_number true x y = refl
 cond_number false x y = refl
 
 -- the set of dates
-set_number : (a : Answer) (k : ℕ) (x : Dates) → ((q : Refusal) → a ≡ Broken q → eqb q.number 0 ≡ false) →
-    (refusal_in_set (set_by a k x)).number ≡ cond (eqb (refusal_of a).number 0) k (refusal_of a).number
-set_number (Broken q) k x h = rw (h q refl)
-set_number (Accepted n) k x h = ⊎_elim (λ (t : eqb k 0 ≡ true). rw t (sym (eqb-true _ _ t))) (λ (t : eqb k 0 ≡ false). rw t) (bool_cases (eqb k 0))
+set_number : (a : Answer) (k : ℕ) (x : Dates) → ((q : Refusal) → a ≡ Err q → eqb q.number 0 ≡ false) →
+    (refusal_in (set_by a k x)).number ≡ cond (eqb (refusal_in a).number 0) k (refusal_in a).number
+set_number (Err q) k x h = rw (h q refl)
+set_number (Ok n) k x h = ⊎_elim (λ (t : eqb k 0 ≡ true). rw t (sym (eqb-true _ _ t))) (λ (t : eqb k 0 ≡ false). rw t) (bool_cases (eqb k 0))
 
-pub dates_first : (p : List ℕ) (start pack : ℕ) (out : Bool) (x : Dates) → (refusal_in_set (set_by (verdict_of p) (asked_by start pack out 0) x)).number ≡ first_given (given_by_dates p start pack out) dates_order
+pub dates_first : (p : List ℕ) (start pack : ℕ) (out : Bool) (x : Dates) → (refusal_in (set_by (verdict_of p) (asked_by start pack out 0) x)).number ≡ first_given (given_by_dates p start pack out) dates_order
 unfolding first_given chain asked_by
 dates_first p start pack out x = set_number (verdict_of p) (asked_by start pack out 0) x (broken_number p) ∙ sym (passed_on_lem p (asked_by start pack out 0))
 
 -- supply
 module _ (p : List ℕ) (start pack choice : ℕ) (out : Bool) (ps : List Pause) where
-  judged_number : (supplyRefusal (judged_of p start pack choice out ps)).number ≡ supplyRefusedBy start pack choice out (has_stop choice p) (stop_day choice p)
+  judged_number : (refusal_in (judged_of p start pack choice out ps)).number ≡ supplyRefusedBy start pack choice out (has_stop choice p) (stop_day choice p)
   unfolding judged_of
   judged_number =
       let k = supplyRefusedBy start pack choice out (has_stop choice p) (stop_day choice p) in
@@ -147,7 +146,7 @@ module _ (p : List ℕ) (start pack choice : ℕ) (out : Bool) (ps : List Pause)
       (λ (t : eqb k 0 ≡ false). rw t)
       (bool_cases (eqb k 0))
 
-  pub supply_first : (supplyRefusal (passed_on (verdict_of p) (judged_of p start pack choice out ps))).number ≡ first_given (given_by_supply p start pack choice out) supply_order
+  pub supply_first : (refusal_in (passed_on (verdict_of p) (judged_of p start pack choice out ps))).number ≡ first_given (given_by_supply p start pack choice out) supply_order
   unfolding first_given chain asked_by own_by
   supply_first =
       supply_number (verdict_of p) (judged_of p start pack choice out ps) (broken_number p) ∙

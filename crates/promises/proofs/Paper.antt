@@ -5,6 +5,7 @@ use mathlib.Core.List.{[], ◌∷◌}
 use mathlib.Core.Path.{◌≡◌, refl, sym, ap, ◌∙◌}
 use native.Mathlib.Omega.{arith}
 use lib.ListN.{length, length-replicate}
+use Rattle.refusal.specs.Refusals.{refusal_in}
 use Rattle.below.specs.Below.{sum_below}
 use Rattle.below.specs.Lists.{join_over, Every.none, Every.more}
 use Rattle.block.proofs.Numbers.{AreBytes}
@@ -17,7 +18,7 @@ use Rattle.plan.specs.Fields.{plan_number_of, revision_of}
 use Rattle.register.proofs.LawRevision as law
 use Rattle.register.specs.Sound.{is_accepted}
 use Rattle.register.specs.Steps.{Call.clear, Call.submit, Call.sign, Call.release}
-use Rattle.verdict.specs.Verdict.{verdict_of, refusal_of}
+use Rattle.verdict.specs.Verdict.{verdict_of}
 use Rattle.promises.specs.Cases.{Holds, Case.dated, Case.summed, Case.called, two_words, one_slot, output, signed_plan, A, B, Paper}
 use Rattle.promises.specs.Plans.{head, unmarked, daily, fixed, revision}
 use Rattle.promises.proofs.Supplies.{P10, P11, P12, P13}
@@ -90,10 +91,10 @@ paper =
     (more computed.p3
     (more computed.p4
     (more computed.p5
-    (more (ap refusal_of P6)
-    (more (ap refusal_of P7)
-    (more (ap refusal_of P8)
-    (more (ap refusal_of P9)
+    (more (ap refusal_in P6)
+    (more (ap refusal_in P7)
+    (more (ap refusal_in P8)
+    (more (ap refusal_in P9)
     (more P10
     (more P11
     (more P12

@@ -1,4 +1,6 @@
 -- Supply in steps is what W12 says. Assumes nothing.
+use Rattle.refusal.specs.Refusals.{refusal_in}
+use Rattle.std.specs.Prelude.{Err, Ok}
 use Prim.Native.Nat.{ℕ, ◌+◌, ◌*◌, ◌%◌, ◌≤◌, ◌<◌}
 use mathlib.Core.Bool.{Bool, false, not, ◌||◌}
 use mathlib.Core.List.{List}
@@ -17,13 +19,12 @@ use Rattle.supply.proofs.OnePeriod.{none_paused, only_stop, only_inside, only_fe
 use Rattle.supply.proofs.WholeRounds.{block_need}
 use Rattle.supply.specs.Covered.{summed}
 use Rattle.supply.specs.Steps.{Counted, counted_of}
-use Rattle.supply.specs.Supply.{judged_of, passed_on, refusal_in, lasting_in}
+use Rattle.supply.specs.Supply.{judged_of, passed_on, lasting_in}
 use Rattle.supply.specs.Code.Standing.{round_need}
-use Rattle.supply.specs.declared.Supply.{Supply}
+use Rattle.supply.specs.Answers.{Supply}
 use Rattle.verdict.proofs.Exactly.{NoRuleBroken, accepted_only}
 use Rattle.verdict.specs.Verdict.{verdict_of}
-use Rattle.verdict.specs.declared.Answer.{Answer}
-use Rattle.verdict.specs.declared.Answer.TheVariants.{Accepted, Broken}
+use Rattle.verdict.specs.Answers.{Answer}
 use Rattle.promises.specs.Rounds.{InOnePeriod, Stepped, Rounds}
 
 -- `out` says that 21 is due
@@ -71,8 +72,8 @@ module _ (p : List ℕ) (start pack choice : ℕ) (out : Bool) (ps : List Pause)
   one_round b i = by_verdict (verdict_of p) refl
     where
       by_verdict : (a : Answer) → verdict_of p ≡ a → steps.count ≤ interval_of (block_at p b)
-      by_verdict (Accepted n) v = few_steps b i (accepted_only p v)
-      by_verdict (Broken r) v = rw v (omega arith)
+      by_verdict (Ok n) v = few_steps b i (accepted_only p v)
+      by_verdict (Err r) v = rw v (omega arith)
 
   stepped : Stepped p start ps supply steps
   stepped =

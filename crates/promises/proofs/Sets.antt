@@ -1,4 +1,5 @@
 -- The set of dates is what W1 says, over supply's own answers. Assumes nothing.
+use Rattle.std.specs.Prelude.{Err, Ok}
 use Prim.Native.Nat.{ℕ, ◌+◌, ◌-◌, ◌≤◌}
 use mathlib.Core.Bool.{Bool, true, false, cond, not, ◌||◌}
 use mathlib.Core.List.{List}
@@ -13,23 +14,20 @@ use Rattle.day.specs.Days.{open_mark}
 use Rattle.need.specs.Need.{is_choice, choice_of, need_on, stops_at, has_stop_by, stop_day, has_stop}
 use Rattle.pause.specs.declared.Pause.{Pause}
 use Rattle.plan.specs.Periods.{is_period, class_of}
-use Rattle.refusal.specs.Refusals.{alone}
+use Rattle.refusal.specs.Refusals.{alone, refusal_in}
 use Rattle.refusal.specs.declared.Refusal.{Refusal}
 use Rattle.supply.proofs.Agreeing.{one_end, need_only}
 use Rattle.supply.proofs.Later.{low_lasts, low_later}
 use Rattle.supply.proofs.Refusing.{asked_none, stop_day_in}
-use Rattle.supply.specs.Dates.{is_ranging, is_needed, date_by, set_of, set_by, no_dates, dates_in, refusal_in_set}
-use Rattle.supply.specs.Supply.{lasting_of, asked_by, own_by, judged_of, passed_on, refusal_in, lasting_in}
+use Rattle.supply.specs.Dates.{is_ranging, is_needed, date_by, set_of, set_by, no_dates, dates_in}
+use Rattle.supply.specs.Supply.{lasting_of, asked_by, own_by, judged_of, passed_on, lasting_in}
 use Rattle.supply.specs.declared.Dates.{Dates}
-use Rattle.supply.specs.declared.DateSet.{DateSet}
-use Rattle.supply.specs.declared.DateSet.TheVariants as variants
+use Rattle.supply.specs.Answers.{DateSet}
 use Rattle.supply.specs.declared.Lasting.{Lasting}
-use Rattle.supply.specs.declared.Supply.{Supply}
-use Rattle.supply.specs.declared.Supply.TheVariants.{Lasts, Refused}
+use Rattle.supply.specs.Answers.{Supply}
 use Rattle.verdict.proofs.Exactly.{accepted_only}
 use Rattle.verdict.specs.Verdict.{verdict_of}
-use Rattle.verdict.specs.declared.Answer.{Answer}
-use Rattle.verdict.specs.declared.Answer.TheVariants.{Accepted, Broken}
+use Rattle.verdict.specs.Answers.{Answer}
 use Rattle.promises.specs.Sets.{HasNoDay, IsDate, DatesAre, NeedOnly, Sets}
 use Rattle.promises.proofs.LastDays.{last_covered}
 
@@ -49,18 +47,18 @@ if_unwanted x e = rw e
 
 -- a supply that has no day covers none
 covers_none : (s : Supply) → HasNoDay s → (lasting_in s).days ≡ 0
-covers_none (Lasts x) h = ⊎_elim (λ z. z.1) (λ (z : 0 ≡ 24). absurd (omega arith)) h
-covers_none (Refused r) h = refl
+covers_none (Ok x) h = ⊎_elim (λ z. z.1) (λ (z : 0 ≡ 24). absurd (omega arith)) h
+covers_none (Err r) h = refl
 
 -- a refused set has no dates
-no_dates_lem : (s : DateSet) → ((refusal_in_set s).number ≡ 0 → ⊥) → dates_in s ≡ no_dates
-no_dates_lem (variants.Given x) h = absurd (h refl)
-no_dates_lem (variants.Refused r) h = refl
+no_dates_lem : (s : DateSet) → ((refusal_in s).number ≡ 0 → ⊥) → dates_in s ≡ no_dates
+no_dates_lem (Ok x) h = absurd (h refl)
+no_dates_lem (Err r) h = refl
 
 -- dates 3 and 4 of a set that has them equal
 same_dates : (a : Answer) (k : ℕ) (x : Dates) → x.third ≡ x.fourth → (dates_in (set_by a k x)).third ≡ (dates_in (set_by a k x)).fourth
-same_dates (Broken r) k x e = refl
-same_dates (Accepted n) k x e = ⊎_elim (λ (t : eqb k 0 ≡ true). rw t e) (λ (t : eqb k 0 ≡ false). rw t) (bool_cases (eqb k 0))
+same_dates (Err r) k x e = refl
+same_dates (Ok n) k x e = ⊎_elim (λ (t : eqb k 0 ≡ true). rw t e) (λ (t : eqb k 0 ≡ false). rw t) (bool_cases (eqb k 0))
 
 -- `out` says that 21 is due
 module _ (p : List ℕ) (start pack : ℕ) (out : Bool) (ps : List Pause) where
@@ -75,19 +73,19 @@ module _ (p : List ℕ) (start pack : ℕ) (out : Bool) (ps : List Pause) where
 
   -- a set that is not refused
   record IsGiven (x : Dates) : Type 0 where
-    accepted : (n : ℕ) × (verdict_of p ≡ Accepted n)
+    accepted : (n : ℕ) × (verdict_of p ≡ Ok n)
     none : asked_by start pack out 0 ≡ 0
     is : dates ≡ x
 
-  is_given : (x : Dates) → set ≡ variants.Given x → IsGiven x
+  is_given : (x : Dates) → set ≡ Ok x → IsGiven x
   is_given x e = by_verdict (verdict_of p) refl
     where
-      not_both : {r : Refusal} {y : Dates} → variants.Refused r ≡ variants.Given y → ⊥
+      not_both : {r : Refusal} {y : Dates} → Err r ≡ Ok y → ⊥
       not_both f = let z : ◌≡◌ {A = ℕ} 0 1 = cc in omega arith
 
       by_verdict : (a : Answer) → verdict_of p ≡ a → IsGiven x
-      by_verdict (Broken r) v = absurd (not_both (rw v at e))
-      by_verdict (Accepted n) v =
+      by_verdict (Err r) v = absurd (not_both (rw v at e))
+      by_verdict (Ok n) v =
           let f = rw v at e in
           ⊎_elim
           (λ (t : eqb (asked_by start pack out 0) 0 ≡ true). let g = rw t at f in record { accepted = (n, v); none = eqb-true _ _ t; is = cc })
@@ -95,11 +93,11 @@ module _ (p : List ℕ) (start pack : ℕ) (out : Bool) (ps : List Pause) where
           (bool_cases (eqb (asked_by start pack out 0) 0))
 
   -- then the supply of a choice is refused by 24 or lasts
-  module _ {n : ℕ} (v : verdict_of p ≡ Accepted n) (none : asked_by start pack out 0 ≡ 0) (choice : ℕ) (c : is_choice choice ≡ true) where
+  module _ {n : ℕ} (v : verdict_of p ≡ Ok n) (none : asked_by start pack out 0 ≡ 0) (choice : ℕ) (c : is_choice choice ≡ true) where
     abbrev lasting : Lasting
     lasting = lasting_of (need_on choice p ps) start (stop_day choice p) pack
 
-    by_stop : (supply choice ≡ Refused (alone 24)) ⊎ (supply choice ≡ Lasts lasting)
+    by_stop : (supply choice ≡ Err (alone 24)) ⊎ (supply choice ≡ Ok lasting)
     unfolding judged_of own_by
     by_stop =
         let number = asked_none start pack out (own_by start choice (has_stop choice p) (stop_day choice p)) none in
@@ -109,7 +107,7 @@ module _ (p : List ℕ) (start pack : ℕ) (out : Bool) (ps : List Pause) where
         (bool_cases (not (has_stop choice p) || ltb (stop_day choice p) start))
 
     -- a date that it has is a day of the calendar, and no open mark
-    has_date : supply choice ≡ Lasts lasting → eqb lasting.days 0 ≡ false → lasting.last ≡ open_mark → ⊥
+    has_date : supply choice ≡ Ok lasting → eqb lasting.days 0 ≡ false → lasting.last ≡ open_mark → ⊥
     has_date e t h =
         let l = last_covered p start pack choice out ps lasting e in
         let d = rw t at l.last_is in
@@ -118,8 +116,8 @@ module _ (p : List ℕ) (start pack : ℕ) (out : Bool) (ps : List Pause) where
     is_date_lem : IsDate (supply choice) (date_by supply choice)
     is_date_lem =
         ⊎_elim
-        (λ (e : supply choice ≡ Refused (alone 24)). told e (record { is_last = refl; absent_where = λ h. refl; absent_only = λ h. inr refl }))
-        (λ (e : supply choice ≡ Lasts lasting).
+        (λ (e : supply choice ≡ Err (alone 24)). told e (record { is_last = refl; absent_where = λ h. refl; absent_only = λ h. inr refl }))
+        (λ (e : supply choice ≡ Ok lasting).
         let l = last_covered p start pack choice out ps lasting e in
         told e
         (record {
@@ -142,12 +140,12 @@ module _ (p : List ℕ) (start pack : ℕ) (out : Bool) (ps : List Pause) where
     no_date z =
         is_date_lem.absent_where
         (⊎_elim
-        (λ (e : supply choice ≡ Refused (alone 24)). inr (ap (λ (s : Supply). (refusal_in s).number) e))
-        (λ (e : supply choice ≡ Lasts lasting). inl (ap (λ (s : Supply). (refusal_in s).number) e, z))
+        (λ (e : supply choice ≡ Err (alone 24)). inr (ap (λ (s : Supply). (refusal_in s).number) e))
+        (λ (e : supply choice ≡ Ok lasting). inl (ap (λ (s : Supply). (refusal_in s).number) e, z))
         by_stop)
 
   -- low amounts last longer
-  module _ {n : ℕ} (v : verdict_of p ≡ Accepted n) where
+  module _ {n : ℕ} (v : verdict_of p ≡ Ok n) where
     days_later : (lasting_in (supply 2)).days ≤ (lasting_in (supply 1)).days
     days_later = rw v (low_lasts p (accepted_only p v) start pack out ps)
 
@@ -164,7 +162,7 @@ module _ (p : List ℕ) (start pack : ℕ) (out : Bool) (ps : List Pause) where
   moved : {s t : Supply} {x y : ℕ} → s ≡ t → x ≡ y → IsDate s x → IsDate t y
   moved e f d = rw (← e, ← f) d
 
-  dates_are : (x : Dates) → set ≡ variants.Given x → DatesAre p start supply x
+  dates_are : (x : Dates) → set ≡ Ok x → DatesAre p start supply x
   unfolding set_of
   dates_are x e =
       let g = is_given x e in

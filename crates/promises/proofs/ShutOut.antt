@@ -1,4 +1,6 @@
 -- The stand-ins and errors that document 01 names are shut out. Assumes nothing.
+use Rattle.refusal.specs.Refusals.{refusal_in}
+use Rattle.std.specs.Prelude.{Ok}
 use Prim.Native.Nat.{ℕ, ◌+◌, ◌-◌, ◌≤◌, ◌<◌}
 use mathlib.Core.Bool.{Bool, true, false}
 use mathlib.Core.List.{List, [], ◌∷◌}
@@ -6,6 +8,7 @@ use mathlib.Core.Logic.{◌⊎◌, inl, inr, ⊎_elim}
 use mathlib.Core.Option.{Option, none, some}
 use mathlib.Core.Path.{◌≡◌, refl, sym, ap, ◌∙◌}
 use native.Mathlib.Omega.{arith}
+use Rattle.std.specs.Prelude.{Option as Perhaps, Some, None}
 use lib.ListN.{length}
 use borrow.Author.Tests.{eqb-true}
 use Rattle.below.proofs.Tests.{true_not_false, le_or_lt, same_or_not}
@@ -14,10 +17,7 @@ use Rattle.block.specs.Bytes.{byte_at, bytes_of, put}
 use Rattle.block.specs.Sums.{sealed}
 use Rattle.day.specs.Days.{open_mark, named_by, Shows, last_number}
 use Rattle.day.specs.declared.Date.{Date}
-use Rattle.day.specs.declared.Named.{Named}
-use Rattle.day.specs.declared.Shown.{Shown}
-use Rattle.day.specs.declared.Shown.TheVariants.{As, NoDay}
-use Rattle.day.specs.declared.Named.TheVariants.{On, NoDate}
+use Rattle.day.specs.declared.Day.{Day}
 use Rattle.layout.specs.Layout.{Written, filled, head_bytes, laid_out}
 use Rattle.pause.specs.declared.Pause.{Pause}
 use Rattle.plan.specs.Fields.{plan_number_of}
@@ -33,14 +33,13 @@ use Rattle.doses.specs.Doses.{position_of}
 use Rattle.split.specs.Days.{doses_on_day}
 use Rattle.split.specs.Parts.{part_bytes}
 use Rattle.split.specs.Split.{lengths_of, split_of, over, left_by}
-use Rattle.split.specs.declared.Parted.TheVariants.{Parts}
 use Rattle.supply.proofs.Covering.{Supplied, supplied_one, summed_le, summed_more}
 use Rattle.need.specs.Need.{due_on, need_on, stop_day}
 use Rattle.supply.specs.Dates.{dates_in, dates_of, packed_dates_of}
 use Rattle.supply.specs.Supply.{supply_of, packed_supply_of, lasting_in}
 use Rattle.supply.specs.declared.Dates.{Dates}
 use Rattle.supply.specs.declared.Lasting.{Lasting}
-use Rattle.verdict.specs.Verdict.{verdict_of, refusal_of}
+use Rattle.verdict.specs.Verdict.{verdict_of}
 use Rattle.promises.specs.Cases.{one_daily, two_daily, one_slot, output, signed_plan, A, B}
 use Rattle.promises.specs.Demand3.{Covers}
 use Rattle.promises.specs.Plans.{plan}
@@ -53,9 +52,9 @@ use Rattle.promises.proofs.Supplies.{P10, P11}
 use Rattle.promises.proofs.Verdicts.{P6, P7, P8-holes, P8-together, four_bytes, both_accepted}
 use Rattle.promises.proofs.Witnesses.{room_long, witnesses}
 
-one_verdict : (x : Refusal) → ((p : List ℕ) → refusal_of (verdict_of p) ≡ x) → ⊥
+one_verdict : (x : Refusal) → ((p : List ℕ) → refusal_in (verdict_of p) ≡ x) → ⊥
 one_verdict x h =
-    let z : ◌≡◌ {A = ℕ} 17 0 = ap (λ (r : Refusal). r.number) (sym (ap refusal_of P6) ∙ h _ ∙ sym (h _) ∙ ap refusal_of P7) in
+    let z : ◌≡◌ {A = ℕ} 17 0 = ap (λ (r : Refusal). r.number) (sym (ap refusal_in P6) ∙ h _ ∙ sym (h _) ∙ ap refusal_in P7) in
     omega arith
 
 -- a last covered day: P10 against P11
@@ -83,19 +82,19 @@ one_packed_set x h =
     omega arith
 
 -- a day, and a date: P1 against P3
-number_in : Named → ℕ
-number_in (On d) = d.number
-number_in NoDate = 0
+number_in : Perhaps Day → ℕ
+number_in (Some d) = d.number
+number_in None = 0
 
-one_day : (x : Named) → ((d : Date) → named_by d ≡ x) → ⊥
+one_day : (x : Perhaps Day) → ((d : Date) → named_by d ≡ x) → ⊥
 unfolding number_in
 one_day x h =
     let z : ◌≡◌ {A = ℕ} 60 6547 = ap number_in (sym computed.p1.0 ∙ h _ ∙ sym (h _) ∙ computed.p3.0) in
     omega arith
 
-one_date : (x : Shown) → ((n : ℕ) → Shows n x) → ⊥
-one_date (As d) h = omega (arith, (h 0).1, (h 1).1)
-one_date NoDay h = omega (arith, h 0)
+one_date : (x : Perhaps Date) → ((n : ℕ) → Shows n x) → ⊥
+one_date (Some d) h = omega (arith, (h 0).1, (h 1).1)
+one_date None h = omega (arith, h 0)
 
 -- what demand 3 says of a supply leaves one answer
 module _ (p : List ℕ) (start pack choice : ℕ) (ps : List Pause) where
@@ -167,7 +166,7 @@ room_byte : byte_at part_room 0 ≡ 0
 unfolding part_room
 room_byte = refl
 
-parts : split_of both_marks part_room part_room ≡ Parts (lengths_of both_marks)
+parts : split_of both_marks part_room part_room ≡ Ok (lengths_of both_marks)
 unfolding split_of
 parts = rw (both_accepted, room_long)
 

@@ -1,4 +1,5 @@
 -- P10 to P13, from bytes and through the verdict. Assumes nothing.
+use Rattle.std.specs.Prelude.{Ok}
 use mathlib.Core.Bool.{Bool, not, ◌||◌}
 use mathlib.Core.List.{List, [], ◌∷◌, ◌++◌}
 use mathlib.Core.Path.{◌≡◌, refl}
@@ -20,9 +21,7 @@ use Rattle.need.specs.Need.{choice_of, due_on, need_on, stop_day_by, has_stop_by
 use Rattle.supply.specs.Covered.{covered}
 use Rattle.supply.specs.Supply.{lasting_of, asked_by, own_by, judged_of}
 use Rattle.supply.specs.declared.Lasting.{Lasting}
-use Rattle.supply.specs.declared.Supply.TheVariants.{Lasts}
 use Rattle.verdict.specs.Verdict.{verdict_of}
-use Rattle.verdict.specs.declared.Answer.TheVariants.{Accepted}
 use Rattle.promises.specs.Cases.{Holds, Case.supplied, one_daily, two_daily}
 use Rattle.promises.specs.Plans.{head, unmarked, daily, plan, revision}
 use Rattle.promises.proofs.Verdicts.{one_accepted, two_accepted}
@@ -39,10 +38,10 @@ packed_out s = not (eqb (length s % 8) 0) || are_out (pauses_in s)
 
 -- behind the verdict, by either choice
 record Computed (ws : List Written) (pack : ℕ) (ps : List Pause) (s : List ℕ) (x : Lasting) : Type 0 where
-  low : judged_of (plan ws) 8077 pack 1 (are_out ps) ps ≡ Lasts x
-  upper : judged_of (plan ws) 8077 pack 2 (are_out ps) ps ≡ Lasts x
-  packed_low : judged_of (plan ws) 8077 pack 1 (packed_out s) (pauses_in s) ≡ Lasts x
-  packed_upper : judged_of (plan ws) 8077 pack 2 (packed_out s) (pauses_in s) ≡ Lasts x
+  low : judged_of (plan ws) 8077 pack 1 (are_out ps) ps ≡ Ok x
+  upper : judged_of (plan ws) 8077 pack 2 (are_out ps) ps ≡ Ok x
+  packed_low : judged_of (plan ws) 8077 pack 1 (packed_out s) (pauses_in s) ≡ Ok x
+  packed_upper : judged_of (plan ws) 8077 pack 2 (packed_out s) (pauses_in s) ≡ Ok x
 
 record All : Type 0 where
   p10 : Computed one_daily 50000 [] [] (record { days = 29; last = 8105; rest = 47100; reason = 2 })
@@ -60,7 +59,7 @@ all =
       p13 = record { low = refl; upper = refl; packed_low = refl; packed_upper = refl };
     }
 
-module _ {ws : List Written} {pack n : ℕ} {ps : List Pause} {s : List ℕ} {x : Lasting} (e : verdict_of (plan ws) ≡ Accepted n) (c : Computed ws pack ps s x) where
+module _ {ws : List Written} {pack n : ℕ} {ps : List Pause} {s : List ℕ} {x : Lasting} (e : verdict_of (plan ws) ≡ Ok n) (c : Computed ws pack ps s x) where
   through : Holds (supplied ws 8077 pack ps s x)
   through = (rw e c.low, rw e c.upper, rw e c.packed_low, rw e c.packed_upper)
 

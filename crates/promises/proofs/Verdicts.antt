@@ -1,4 +1,5 @@
 -- The verdicts on the plans of the cases and of the witnesses, from their bytes. Assumes nothing.
+use Rattle.std.specs.Prelude.{Err, Ok}
 use Prim.Native.Nat.{ℕ, ◌<◌}
 use mathlib.Core.Bool.{Bool, true, false}
 use mathlib.Core.List.{List, [], ◌∷◌}
@@ -23,7 +24,6 @@ use Rattle.refusal.specs.Refusals.{rule_at}
 use Rattle.verdict.specs.Coverage.{hole, holes, bare, shares_with, shares, meets_at, meets, hole_at, is_member}
 use Rattle.verdict.specs.Code.Groups.{hole_after}
 use Rattle.verdict.specs.Verdict.{plan_limit, breaks, verdict_of}
-use Rattle.verdict.specs.declared.Answer.TheVariants.{Accepted, Broken}
 use Rattle.verdict.specs.declared.Group.TheVariants.{All}
 use Rattle.promises.specs.Cases.{one_daily, two_daily, signed_plan}
 use Rattle.promises.specs.Plans.{head, unmarked, marked, ranging, daily, fixed, need, mixed, empty, plan, revision}
@@ -92,20 +92,20 @@ all =
 
 -- the verdict by it
 module _ {n : ℕ} {ws : List Written} {t : Bool} (l : n < 4294967296) (h : Every PeriodRight ws) (c : Computed n ws t) where
-  of_accepted : t ≡ false → verdict_of (revision n ws) ≡ Accepted (length (revision n ws))
+  of_accepted : t ≡ false → verdict_of (revision n ws) ≡ Ok (length (revision n ws))
   of_accepted e = is_accepted_lem (laid_formed n l ws h c.few) c.clear (c.after ∙ e)
 
-  of_hole : t ≡ true → verdict_of (revision n ws) ≡ Broken (rule_at 17 0)
+  of_hole : t ≡ true → verdict_of (revision n ws) ≡ Err (rule_at 17 0)
   of_hole e = is_hole (laid_formed n l ws h c.few) c.clear (ltb-true _ _ c.some) (c.after ∙ e)
 
-pub P6 : verdict_of (plan (fixed 6547 6550 ∷ fixed 6557 6560 ∷ [])) ≡ Broken (rule_at 17 0)
+pub P6 : verdict_of (plan (fixed 6547 6550 ∷ fixed 6557 6560 ∷ [])) ≡ Err (rule_at 17 0)
 P6 =
     of_hole (omega arith)
     (more (fixed_right 6547 6550 (omega arith) (omega arith) refl)
     (more (fixed_right 6557 6560 (omega arith) (omega arith) refl) none))
     all.p6 refl
 
-pub P7 : verdict_of (plan ws7) ≡ Accepted (length (plan ws7))
+pub P7 : verdict_of (plan ws7) ≡ Ok (length (plan ws7))
 P7 =
     of_accepted (omega arith)
     (more (fixed_right 6547 6550 (omega arith) (omega arith) refl)
@@ -119,7 +119,7 @@ p8_right =
     (more (need_right 6551 6554 (omega arith) (omega arith) refl)
     (more (fixed_right 6555 6558 (omega arith) (omega arith) refl) none))
 
-pub P8 : verdict_of (plan ws8) ≡ Broken (rule_at 17 0)
+pub P8 : verdict_of (plan ws8) ≡ Err (rule_at 17 0)
 P8 = of_hole (omega arith) p8_right all.p8 refl
 
 -- it has a hole, and none over all periods together
@@ -132,7 +132,7 @@ P8-holes = holes_after p8_formed ∙ all.p8.after
 pub P8-together : hole All All (plan ws8) ≡ false
 P8-together = sym (together_after p8_formed) ∙ all.p8_together
 
-pub P9 : verdict_of (plan ws9) ≡ Broken (rule_at 16 2)
+pub P9 : verdict_of (plan ws9) ≡ Err (rule_at 16 2)
 P9 =
     is_broken_lem
     (laid_formed 1 (omega arith) ws9
@@ -141,20 +141,20 @@ P9 =
     all.p9_few)
     11 (omega arith) all.p9_clear all.p9_block (ltb-true _ _ all.p9_some)
 
-pub one_accepted : verdict_of (plan one_daily) ≡ Accepted (length (plan one_daily))
+pub one_accepted : verdict_of (plan one_daily) ≡ Ok (length (plan one_daily))
 one_accepted = of_accepted (omega arith) one_daily_lem all.one refl
   where
     one_daily_lem : Every PeriodRight one_daily
     one_daily_lem = unfold one_daily in more (daily_right 8000 8105 (omega arith) (omega arith) refl (more (unmarked_right 100 (omega arith)) none)) none
 
-pub two_accepted : verdict_of (plan two_daily) ≡ Accepted (length (plan two_daily))
+pub two_accepted : verdict_of (plan two_daily) ≡ Ok (length (plan two_daily))
 two_accepted = of_accepted (omega arith) two_daily_lem all.two refl
   where
     two_daily_lem : Every PeriodRight two_daily
     two_daily_lem = unfold two_daily in more (daily_right 8000 open_mark (omega arith) (omega arith) refl (more (unmarked_right 200 (omega arith)) none)) none
 
 -- the plans of the sets of dates
-pub kinds_accepted : verdict_of (plan both_kinds) ≡ Accepted (length (plan both_kinds))
+pub kinds_accepted : verdict_of (plan both_kinds) ≡ Ok (length (plan both_kinds))
 kinds_accepted = of_accepted (omega arith) both_kinds_lem all.kinds refl
   where
     both_kinds_lem : Every PeriodRight both_kinds
@@ -163,14 +163,14 @@ kinds_accepted = of_accepted (omega arith) both_kinds_lem all.kinds refl
         more (daily_right 8000 open_mark (omega arith) (omega arith) refl (more (ranging_right 100 200 (omega arith) (omega arith)) none))
         (more (daily_right 8000 open_mark (omega arith) (omega arith) refl (more (marked_right 300 (omega arith)) none)) none)
 
-pub needs_accepted : verdict_of (plan only_need) ≡ Accepted (length (plan only_need))
+pub needs_accepted : verdict_of (plan only_need) ≡ Ok (length (plan only_need))
 needs_accepted = of_accepted (omega arith) only_need_lem all.needs refl
   where
     only_need_lem : Every PeriodRight only_need
     only_need_lem = unfold only_need in more (daily_right 8000 open_mark (omega arith) (omega arith) refl (more (marked_right 300 (omega arith)) none)) none
 
 -- the plan of the steps
-pub weekly_accepted : verdict_of (plan weekly) ≡ Accepted (length (plan weekly))
+pub weekly_accepted : verdict_of (plan weekly) ≡ Ok (length (plan weekly))
 weekly_accepted = of_accepted (omega arith) weekly_right all.weeks refl
   where
     weekly_right : Every PeriodRight weekly
@@ -180,11 +180,11 @@ weekly_accepted = of_accepted (omega arith) weekly_right all.weeks refl
 signed_right : Every PeriodRight (fixed 8000 open_mark ∷ [])
 signed_right = more (fixed_right 8000 open_mark (omega arith) (omega arith) refl) none
 
-pub four_accepted : verdict_of (signed_plan 4) ≡ Accepted (length (signed_plan 4))
+pub four_accepted : verdict_of (signed_plan 4) ≡ Ok (length (signed_plan 4))
 unfolding signed_plan
 four_accepted = of_accepted (omega arith) signed_right all.four refl
 
-pub five_accepted : verdict_of (signed_plan 5) ≡ Accepted (length (signed_plan 5))
+pub five_accepted : verdict_of (signed_plan 5) ≡ Ok (length (signed_plan 5))
 unfolding signed_plan
 five_accepted = of_accepted (omega arith) signed_right all.five refl
 
@@ -200,7 +200,7 @@ five_bytes = laid_are_bytes 5 (omega arith) (fixed 8000 open_mark ∷ []) signed
 both_right : Every PeriodRight (mixed 6547 6550 ∷ [])
 both_right = more (mixed_right 6547 6550 (omega arith) (omega arith) refl) none
 
-pub both_accepted : verdict_of (plan (mixed 6547 6550 ∷ [])) ≡ Accepted (length (plan (mixed 6547 6550 ∷ [])))
+pub both_accepted : verdict_of (plan (mixed 6547 6550 ∷ [])) ≡ Ok (length (plan (mixed 6547 6550 ∷ [])))
 both_accepted = of_accepted (omega arith) both_right all.both refl
 
 pub both_bytes : AreBytes (plan (mixed 6547 6550 ∷ []))

@@ -1,4 +1,5 @@
 -- The steps of the witnesses, from bytes and through the verdict. Assumes nothing.
+use Rattle.std.specs.Prelude.{Ok}
 use Prim.Native.Nat.{ℕ, ◌*◌, ◌<◌}
 use mathlib.Core.Bool.{true, false}
 use mathlib.Core.List.{[]}
@@ -18,17 +19,16 @@ use Rattle.plan.specs.Fields.{interval_of, first_of, dose_of, dose_bytes}
 use Rattle.plan.specs.Periods.{blocks_of, block_at, is_period, more_of, doses_of, dose_in, has_unmarked, has_marked, class_of}
 use Rattle.supply.specs.Steps.{Counted, is_chosen, has_other, iterated_on, is_taken, block_from, days_from, after, counted_by}
 use Rattle.supply.specs.Supply.{asked_by, own_by}
-use Rattle.supply.specs.declared.Supply.TheVariants.{Lasts}
 use Rattle.promises.specs.Plans.{head, unmarked, plan, revision}
 use Rattle.promises.specs.Rounds.{in_steps, packed_in_steps, InOnePeriod}
 use Rattle.promises.specs.Witnesses.{weekly}
 use Rattle.promises.proofs.Verdicts.{weekly_accepted}
 
 abbrev counted_in_two : Counted
-counted_in_two = record { answer = Lasts (record { days = 29; last = 8105; rest = 49500; reason = 2 }); count = 2 }
+counted_in_two = record { answer = Ok (record { days = 29; last = 8105; rest = 49500; reason = 2 }); count = 2 }
 
 abbrev counted_in_seven : Counted
-counted_in_seven = record { answer = Lasts (record { days = 27; last = 8104; rest = 50; reason = 1 }); count = 7 }
+counted_in_seven = record { answer = Ok (record { days = 27; last = 8104; rest = 50; reason = 1 }); count = 7 }
 
 -- the plan, and what is counted behind the verdict
 record All : Type 0 where

@@ -1,4 +1,6 @@
 -- The witnesses. Assumes nothing.
+use Rattle.refusal.specs.Refusals.{refusal_in}
+use Rattle.std.specs.Prelude.{Ok}
 use Prim.Native.Nat.{ℕ}
 use mathlib.Core.Bool.{true, false}
 use mathlib.Core.List.{List, [], ◌∷◌}
@@ -20,14 +22,12 @@ use Rattle.register.specs.Promise.{given_by}
 use Rattle.register.specs.Reached.{seen, Reached, Reached.called}
 use Rattle.register.specs.Steps.{Call.clear, Call.submit, Call.sign, Call.release, after}
 use Rattle.split.specs.Parts.{is_of_part, next_dosed, has_run}
-use Rattle.split.specs.Split.{split_of, refusal_in}
+use Rattle.split.specs.Split.{split_of}
 use Rattle.need.specs.Need.{choice_of, due_on, need_on, stop_day_by, has_stop_by}
 use Rattle.supply.specs.Covered.{covered}
 use Rattle.supply.specs.Supply.{lasting_of, asked_by, own_by, judged_of}
-use Rattle.supply.specs.declared.Supply.TheVariants.{Lasts}
 use Rattle.pause.specs.Pauses.{is_paused, are_out, packed_in, pauses_in}
 use Rattle.verdict.specs.Coverage.{is_member}
-use Rattle.verdict.specs.Verdict.{refusal_of}
 use Rattle.promises.specs.Cases.{two_daily, one_slot, output, signed_plan, A, B}
 use Rattle.promises.specs.Demand3.{fixed_part, need_part}
 use Rattle.promises.specs.Plans.{head, unmarked, marked, daily, fixed, need, mixed, empty, plan, revision}
@@ -46,8 +46,8 @@ record Computed : Type 0 where
   long : length (signed_plan 4) ≡ 1024
   fixed_doses : keep (is_of_part false) (doses_on both_marks 6548) ≡ unmarked 100 ∷ []
   need_doses : keep (is_of_part true) (doses_on both_marks 6548) ≡ marked 100 ∷ []
-  calendar : judged_of (plan two_daily) 73047 500 2 (are_out []) [] ≡ Lasts (record { days = 2; last = 73048; rest = 100; reason = 3 })
-  packed_calendar : judged_of (plan two_daily) 73047 500 2 (are_out (pauses_in [])) (pauses_in []) ≡ Lasts (record { days = 2; last = 73048; rest = 100; reason = 3 })
+  calendar : judged_of (plan two_daily) 73047 500 2 (are_out []) [] ≡ Ok (record { days = 2; last = 73048; rest = 100; reason = 3 })
+  packed_calendar : judged_of (plan two_daily) 73047 500 2 (are_out (pauses_in [])) (pauses_in []) ≡ Ok (record { days = 2; last = 73048; rest = 100; reason = 3 })
 
 computed : Computed
 unfolding head unmarked marked daily fixed need mixed empty revision two_daily signed_plan filled head_bytes period_start dose_bytes period_block body_of laid_out number_at bytes_of put sealed list_below join_over first_from first_below any_below sum_below largest_below dose_of block_at more_of doses_of dose_in has_unmarked has_marked class_of pick_below join_below sum_over position_of doses_of_period doses_on is_paused packed_in are_out judged_of asked_by own_by lasting_of need_on due_on choice_of stop_day_by has_stop_by covered keep is_member next_dosed
@@ -98,8 +98,8 @@ module _ where
 pub witnesses : Witnesses
 witnesses =
     record {
-      accepted = ap refusal_of P7;
-      broken = rw (ap refusal_of P9) at (verdicts.broken_only (plan (fixed 6547 6550 ∷ mixed 6548 6551 ∷ [])) (λ e. let z = rw P9 at e in omega (arith, z)));
+      accepted = ap refusal_in P7;
+      broken = rw (ap refusal_in P9) at (verdicts.broken_only (plan (fixed 6547 6550 ∷ mixed 6548 6551 ∷ [])) (λ e. let z = rw P9 at e in omega (arith, z)));
       run = computed.run;
       calls = numbers;
       released = (reached.0, last, reached.1, is_ok_lem, gives);

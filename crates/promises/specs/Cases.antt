@@ -1,11 +1,10 @@
 -- Document 01, "Worked on paper": "The P cases are proved as a single statement over a list."
-use Rattle.std.specs.Prelude.{ℕ, List, [], ◌∷◌, ◌++◌, ◌≡◌, replicate}
+use Rattle.refusal.specs.Refusals.{refusal_in}
+use Rattle.std.specs.Prelude.{ℕ, List, [], ◌∷◌, ◌++◌, ◌≡◌, replicate, Ok, Some}
 use Rattle.block.specs.Bytes.{bytes_of, put}
 use Rattle.block.specs.Sums.{sums_of}
 use Rattle.day.specs.Days.{open_mark, named_by, Shows}
 use Rattle.day.specs.declared.Date.{Date}
-use Rattle.day.specs.declared.Named.TheVariants.{On}
-use Rattle.day.specs.declared.Shown.TheVariants.{As}
 use Rattle.below.specs.Lists.{Every}
 use Rattle.layout.specs.Layout.{Written}
 use Rattle.pause.specs.declared.Pause.{Pause}
@@ -13,8 +12,7 @@ use Rattle.register.specs.Runs.{numbers_of}
 use Rattle.register.specs.Steps.{Call, Call.clear, Call.submit, Call.sign, Call.release}
 use Rattle.supply.specs.Supply.{supply_of, packed_supply_of}
 use Rattle.supply.specs.declared.Lasting.{Lasting}
-use Rattle.supply.specs.declared.Supply.TheVariants.{Lasts}
-use Rattle.verdict.specs.Verdict.{verdict_of, refusal_of}
+use Rattle.verdict.specs.Verdict.{verdict_of}
 use Rattle.promises.specs.Plans.{unmarked, daily, fixed, need, mixed, empty, plan, revision}
 
 -- what is asked, and the paper's answer
@@ -46,14 +44,14 @@ output = replicate 16384 0
 abbrev pub Holds : Case → Type 0
 Holds (dated y m d n) =
     let date : Date = record { year = y; month = m; day = d } in
-    (named_by date ≡ On (record { number = n })) × Shows n (As date)
+    (named_by date ≡ Some (record { number = n })) × Shows n (Some date)
 Holds (summed w0 w1 a b) = sums_of (two_words w0 w1) ≡ record { first = a; second = b }
-Holds (judged ws k b) = refusal_of (verdict_of (plan ws)) ≡ record { number = k; place = b }
+Holds (judged ws k b) = refusal_in (verdict_of (plan ws)) ≡ record { number = k; place = b }
 Holds (supplied ws start pack ps s x) =
-    (supply_of (plan ws) start pack 1 ps ≡ Lasts x)
-    × (supply_of (plan ws) start pack 2 ps ≡ Lasts x)
-    × (packed_supply_of (plan ws) start pack 1 s ≡ Lasts x)
-    × (packed_supply_of (plan ws) start pack 2 s ≡ Lasts x)
+    (supply_of (plan ws) start pack 1 ps ≡ Ok x)
+    × (supply_of (plan ws) start pack 2 ps ≡ Ok x)
+    × (packed_supply_of (plan ws) start pack 1 s ≡ Ok x)
+    × (packed_supply_of (plan ws) start pack 2 s ≡ Ok x)
 Holds (called cs ns) = numbers_of one_slot cs ≡ ns
 
 -- "1.00 daily to 8105"; "2.00 daily, open"

@@ -6,16 +6,16 @@ use Rattle.std.specs.Prelude.{ℕ, ◌%◌, ◌<◌, Bool, true, false, cond, no
 use Rattle.doses.specs.Doses.{day_sums}
 use Rattle.pause.specs.Pauses.{are_out, pauses_in}
 use Rattle.pause.specs.declared.Pause.{Pause}
-use Rattle.refusal.specs.Refusals.{nowhere, alone, code_of, done_code}
+use Rattle.refusal.specs.Refusals.{nowhere, alone, code_of, done_code, code_in, refusal_in}
 use Rattle.refusal.specs.declared.Refusal.{Refusal}
 use Rattle.register.specs.Steps.{Call, Call.clear, Call.submit, Call.sign, Call.release, Call.drop, Call.state, answered, after, room_after}
-use Rattle.screen.specs.Calls.{too_short, code26, supply_code, supply_out, dates_code, dates_out, split_code, split_out, stretch_out, released_out, state_out, sums_out}
+use Rattle.screen.specs.Calls.{too_short, code26, supply_out, dates_out, split_out, stretch_out, released_out, state_out, sums_out}
 use Rattle.showing.specs.Showing.{stretch_of}
 use Rattle.split.specs.Parts.{part_bytes}
-use Rattle.split.specs.Split.{split_of, refusal_in, left_by}
-use Rattle.supply.specs.Dates.{refusal_in_set, dates_of, packed_dates_of}
-use Rattle.supply.specs.Supply.{supply_of, packed_supply_of, refusal_in as supplyRefusal}
-use Rattle.verdict.specs.Verdict.{verdict_of, refusal_of, code_of_answer}
+use Rattle.split.specs.Split.{split_of, left_by}
+use Rattle.supply.specs.Dates.{dates_of, packed_dates_of}
+use Rattle.supply.specs.Supply.{supply_of, packed_supply_of}
+use Rattle.verdict.specs.Verdict.{verdict_of}
 use Rattle.promises.specs.Orders.{first_given, rules, is_broken, dates_order, given_by_dates, supply_order, given_by_supply, split_order, given_by_split, order_of, given_by_call, given_by_screen}
 
 -- a call is refused: its number is not 0
@@ -29,8 +29,8 @@ Placed v x = (x ≡ v) ⊎ ((x.place ≡ nowhere) × ((x.number ≡ 0) ⊎ (17 <
 -- the verdict on the plan that a call on a register has, if it has one
 abbrev pub verdict_in : Call → Refusal
 verdict_in clear = alone 0
-verdict_in (submit p) = refusal_of (verdict_of p)
-verdict_in (sign signer p) = refusal_of (verdict_of p)
+verdict_in (submit p) = refusal_in (verdict_of p)
+verdict_in (sign signer p) = refusal_in (verdict_of p)
 verdict_in (release n room) = alone 0
 verdict_in (drop n) = alone 0
 verdict_in (state n) = alone 0
@@ -38,18 +38,18 @@ verdict_in (state n) = alone 0
 -- the calls of the library
 pub record Calls : Type 0 where
   -- "A refusal gives its number from document 01 in the order set there"
-  pub verdict_order : (p : List ℕ) → (refusal_of (verdict_of p)).number ≡ first_given (is_broken p) rules
+  pub verdict_order : (p : List ℕ) → (refusal_in (verdict_of p)).number ≡ first_given (is_broken p) rules
   pub supply_order_lem : (p : List ℕ) (start pack choice : ℕ) (ps : List Pause) →
-      (supplyRefusal (supply_of p start pack choice ps)).number ≡ first_given (given_by_supply p start pack choice (are_out ps)) supply_order
+      (refusal_in (supply_of p start pack choice ps)).number ≡ first_given (given_by_supply p start pack choice (are_out ps)) supply_order
   pub dates_order_lem : (p : List ℕ) (start pack : ℕ) (ps : List Pause) →
-      (refusal_in_set (dates_of p start pack ps)).number ≡ first_given (given_by_dates p start pack (are_out ps)) dates_order
+      (refusal_in (dates_of p start pack ps)).number ≡ first_given (given_by_dates p start pack (are_out ps)) dates_order
   pub split_order_lem : (p fixed need : List ℕ) → (refusal_in (split_of p fixed need)).number ≡ first_given (given_by_split p fixed need) split_order
   pub register_order : (r : List ℕ) (c : Call) → (answered r c).refusal.number ≡ first_given (given_by_call r c) (order_of c)
   -- with its place
   pub supply_place : (p : List ℕ) (start pack choice : ℕ) (ps : List Pause) →
-      Placed (refusal_of (verdict_of p)) (supplyRefusal (supply_of p start pack choice ps))
-  pub dates_place : (p : List ℕ) (start pack : ℕ) (ps : List Pause) → Placed (refusal_of (verdict_of p)) (refusal_in_set (dates_of p start pack ps))
-  pub split_place : (p fixed need : List ℕ) → Placed (refusal_of (verdict_of p)) (refusal_in (split_of p fixed need))
+      Placed (refusal_in (verdict_of p)) (refusal_in (supply_of p start pack choice ps))
+  pub dates_place : (p : List ℕ) (start pack : ℕ) (ps : List Pause) → Placed (refusal_in (verdict_of p)) (refusal_in (dates_of p start pack ps))
+  pub split_place : (p fixed need : List ℕ) → Placed (refusal_in (verdict_of p)) (refusal_in (split_of p fixed need))
   pub register_place : (r : List ℕ) (c : Call) → Placed (verdict_in c) (answered r c).refusal
   -- "and the register and the output buffers stay unchanged.": split's two buffers, the register, and the buffer of a release
   pub split_keeps : (p fixed need : List ℕ) → Refused (refusal_in (split_of p fixed need)) →
@@ -69,20 +69,20 @@ pub record Screened (v : Refusal) (code : ℕ) (given : ℕ → Bool) (order : L
 
 -- the calls of the screen, each by what its contract says that it returns and leaves
 pub record ScreenCalls : Type 0 where
-  pub verdict : (p : List ℕ) → Screened (refusal_of (verdict_of p)) (code_of_answer (verdict_of p)) (is_broken p) rules (Unit {0})
+  pub verdict : (p : List ℕ) → Screened (refusal_in (verdict_of p)) (code_in (verdict_of p)) (is_broken p) rules (Unit {0})
   pub supply : (p : List ℕ) (start pack choice : ℕ) (s out : List ℕ) →
       let x = packed_supply_of p start pack choice s in
-      Screened (refusal_of (verdict_of p)) (cond (too_short 32 out) code26 (supply_code x))
+      Screened (refusal_in (verdict_of p)) (cond (too_short 32 out) code26 (code_in x))
       (given_by_screen 32 out (given_by_supply p start pack choice (not (eqb (length s % 8) 0) || are_out (pauses_in s)))) (26 ∷ supply_order)
       (cond (too_short 32 out) out (supply_out out x) ≡ out)
   pub dates : (p : List ℕ) (start pack : ℕ) (s out : List ℕ) →
       let x = packed_dates_of p start pack s in
-      Screened (refusal_of (verdict_of p)) (cond (too_short 40 out) code26 (dates_code x))
+      Screened (refusal_in (verdict_of p)) (cond (too_short 40 out) code26 (code_in x))
       (given_by_screen 40 out (given_by_dates p start pack (not (eqb (length s % 8) 0) || are_out (pauses_in s)))) (26 ∷ dates_order)
       (cond (too_short 40 out) out (dates_out out x) ≡ out)
   pub split : (p fixed need out : List ℕ) →
       let x = split_of p fixed need in
-      Screened (refusal_of (verdict_of p)) (cond (too_short 16 out) code26 (split_code x)) (given_by_screen 16 out (given_by_split p fixed need)) (26 ∷ split_order)
+      Screened (refusal_in (verdict_of p)) (cond (too_short 16 out) code26 (code_in x)) (given_by_screen 16 out (given_by_split p fixed need)) (26 ∷ split_order)
       ((cond (too_short 16 out) fixed (left_by x (part_bytes false p) fixed) ≡ fixed)
       × (cond (too_short 16 out) need (left_by x (part_bytes true p) need) ≡ need)
       × (cond (too_short 16 out) out (split_out out x) ≡ out))
@@ -90,7 +90,7 @@ pub record ScreenCalls : Type 0 where
       Screened (alone 0) (cond (too_short 16 out) code26 done_code) (given_by_screen 16 out (λ k. false)) (26 ∷ [])
       (cond (too_short 16 out) out (stretch_out out (stretch_of fixed need list day)) ≡ out)
   pub day_sums_lem : (p : List ℕ) (day : ℕ) (out : List ℕ) →
-      Screened (refusal_of (verdict_of p)) (cond (too_short 32 out) code26 (code_of_answer (verdict_of p))) (given_by_screen 32 out (is_broken p)) (26 ∷ rules)
+      Screened (refusal_in (verdict_of p)) (cond (too_short 32 out) code26 (code_in (verdict_of p))) (given_by_screen 32 out (is_broken p)) (26 ∷ rules)
       (cond (too_short 32 out) out (sums_out out (verdict_of p) (day_sums p day)) ≡ out)
   -- clear, submit, sign and drop
   pub register : (r : List ℕ) (c : Call) → Screened (verdict_in c) (code_of (answered r c).refusal) (given_by_call r c) (order_of c) (after r c ≡ r)

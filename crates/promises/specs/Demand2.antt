@@ -1,7 +1,7 @@
 -- Demand 2: "The verdict, both lists, the last covered day and every register answer are those of document 01, which condenses the
 -- FMK pages. A plan is accepted exactly when no rule is broken, and otherwise the first broken rule is named."
 -- That each function's answer is the one of its definition in specs/ is its contract. Here stands what those definitions come to.
-use Rattle.std.specs.Prelude.{ℕ, ◌+◌, ◌-◌, ◌≤◌, ◌<◌, Bool, true, false, cond, List, ◌≡◌, eqb, length, get_or}
+use Rattle.std.specs.Prelude.{ℕ, ◌+◌, ◌-◌, ◌≤◌, ◌<◌, Bool, true, false, cond, List, ◌≡◌, eqb, length, get_or, Ok}
 use mathlib.Core.Option.{none, some}
 use Rattle.day.specs.Days.{closed_day, open_mark}
 use Rattle.layout.specs.Layout.{Written}
@@ -10,7 +10,7 @@ use Rattle.pause.specs.Pauses.{pauses_in}
 use Rattle.pause.specs.declared.Pause.{Pause}
 use Rattle.plan.specs.Fields.{revision_of}
 use Rattle.plan.specs.Periods.{blocks_of}
-use Rattle.refusal.specs.Refusals.{alone, has_no_place, nowhere}
+use Rattle.refusal.specs.Refusals.{alone, has_no_place, nowhere, refusal_in}
 use Rattle.register.specs.History.{Event, latest, signatures}
 use Rattle.register.specs.Reached.{IsBytes, Reached}
 use Rattle.register.specs.Steps.{Call.state, done, answered, nothing_but}
@@ -20,15 +20,14 @@ use Rattle.supply.specs.Covered.{summed}
 use Rattle.supply.specs.Dates.{dates_of, packed_dates_of}
 use Rattle.supply.specs.Supply.{supply_of, packed_supply_of}
 use Rattle.supply.specs.declared.Lasting.{Lasting}
-use Rattle.supply.specs.declared.Supply.TheVariants.{Lasts}
 use Rattle.verdict.specs.Coverage.{meets, hole_at}
-use Rattle.verdict.specs.Verdict.{breaks, verdict_of, refusal_of}
+use Rattle.verdict.specs.Verdict.{breaks, verdict_of}
 use Rattle.promises.specs.Orders.{is_broken}
 use Rattle.promises.specs.Sets.{Sets}
 
 -- the plan is accepted: number 0, which has place 255
 abbrev pub IsAccepted : List ℕ → Type 0
-IsAccepted p = refusal_of (verdict_of p) ≡ record { number = 0; place = nowhere }
+IsAccepted p = refusal_in (verdict_of p) ≡ record { number = 0; place = nowhere }
 
 -- "the lowest broken number, then the lowest block that breaks it": these are k and b
 pub record IsLowest (p : List ℕ) (k b : ℕ) : Type 0 where
@@ -44,9 +43,9 @@ pub record Verdicts : Type 0 where
   pub accepted_where : (p : List ℕ) → ((k : ℕ) → k < 18 → is_broken p k ≡ false) → IsAccepted p
   pub accepted_only : (p : List ℕ) → IsAccepted p → (k : ℕ) → k < 18 → is_broken p k ≡ false
   -- "and otherwise the first broken rule is named.": "the lowest broken number, then the lowest block that breaks it"
-  pub broken_where : (p : List ℕ) (k b : ℕ) → IsLowest p k b → refusal_of (verdict_of p) ≡ record { number = k; place = b }
-  pub broken_only : (p : List ℕ) → ((refusal_of (verdict_of p)).number ≡ 0 → ⊥) →
-      IsLowest p (refusal_of (verdict_of p)).number (refusal_of (verdict_of p)).place
+  pub broken_where : (p : List ℕ) (k b : ℕ) → IsLowest p k b → refusal_in (verdict_of p) ≡ record { number = k; place = b }
+  pub broken_only : (p : List ℕ) → ((refusal_in (verdict_of p)).number ≡ 0 → ⊥) →
+      IsLowest p (refusal_in (verdict_of p)).number (refusal_in (verdict_of p)).place
 
 -- the lists of an accepted plan: its two parts, false the fixed one, true the need one
 pub record Lists (p : List ℕ) (part : Bool) : Type 0 where
@@ -88,9 +87,9 @@ pub record Demand2 : Type 0 where
   pub lists : (p : List ℕ) (part : Bool) → IsBytes p → IsAccepted p → Lists p part
   -- "the last covered day", of supply with a lent list of pauses, and of the call that the screen makes, with 8 bytes for each
   pub last_covered_day : (p : List ℕ) (start pack choice : ℕ) (ps : List Pause) (x : Lasting) →
-      supply_of p start pack choice ps ≡ Lasts x → LastCovered p start pack choice ps x
+      supply_of p start pack choice ps ≡ Ok x → LastCovered p start pack choice ps x
   pub packed_last_covered_day : (p : List ℕ) (start pack choice : ℕ) (s : List ℕ) (x : Lasting) →
-      packed_supply_of p start pack choice s ≡ Lasts x → LastCovered p start pack choice (pauses_in s) x
+      packed_supply_of p start pack choice s ≡ Ok x → LastCovered p start pack choice (pauses_in s) x
   -- and of the set of dates, likewise
   pub dates : (p : List ℕ) (start pack : ℕ) (ps : List Pause) →
       Sets p start (λ choice. supply_of p start pack choice ps) (dates_of p start pack ps)

@@ -4,7 +4,8 @@
 -- day's doses of its mark, as often as the plan does, with time and amounts. Wherever supply isn't refused, the pack equals the
 -- fixed doses of all covered days at the chosen amount, paused days counting nothing, plus the rest, and the next day needs more
 -- than the rest, or the dosage or the calendar ends there."
-use Rattle.std.specs.Prelude.{ℕ, ◌+◌, ◌≤◌, ◌<◌, true, false, cond, List, ◌≡◌, take}
+use Rattle.refusal.specs.Refusals.{refusal_in}
+use Rattle.std.specs.Prelude.{ℕ, ◌+◌, ◌≤◌, ◌<◌, true, false, cond, List, ◌≡◌, take, Ok}
 use Rattle.below.specs.Below.{sum_below}
 use Rattle.below.specs.Lists.{keep, sum_over}
 use Rattle.day.specs.Days.{last_number}
@@ -14,11 +15,10 @@ use Rattle.pause.specs.declared.Pause.{Pause}
 use Rattle.register.specs.Promise.{SlotPromise}
 use Rattle.register.specs.Reached.{IsBytes}
 use Rattle.split.specs.Parts.{is_of_part, part_bytes}
-use Rattle.split.specs.Split.{split_of, refusal_in, lengths_in, left_by}
+use Rattle.split.specs.Split.{split_of, lengths_in, left_by}
 use Rattle.need.specs.Need.{choice_of, stop_day}
 use Rattle.supply.specs.Supply.{supply_of, packed_supply_of}
 use Rattle.supply.specs.declared.Lasting.{Lasting}
-use Rattle.supply.specs.declared.Supply.TheVariants.{Lasts}
 
 -- the parts, as the caller of split finds them: the first bytes of the two buffers, as many as the answer says
 abbrev pub fixed_part : List ℕ → List ℕ → List ℕ → List ℕ
@@ -55,13 +55,13 @@ pub record Covers (p : List ℕ) (start pack choice : ℕ) (ps : List Pause) (x 
 abbrev pub Packing : Type 0
 Packing =
     (p : List ℕ) (start pack choice : ℕ) (ps : List Pause) (x : Lasting) →
-    supply_of p start pack choice ps ≡ Lasts x → Covers p start pack choice ps x
+    supply_of p start pack choice ps ≡ Ok x → Covers p start pack choice ps x
 
 -- and in the call that the screen makes, with 8 bytes for each
 abbrev pub PackedPacking : Type 0
 PackedPacking =
     (p : List ℕ) (start pack choice : ℕ) (s : List ℕ) (x : Lasting) →
-    packed_supply_of p start pack choice s ≡ Lasts x → Covers p start pack choice (pauses_in s) x
+    packed_supply_of p start pack choice s ≡ Ok x → Covers p start pack choice (pauses_in s) x
 
 pub record Demand3 : Type 0 where
   -- "Start from a cleared register that only our calls touch, and make calls in every order. A released plan is then, .."

@@ -1,26 +1,23 @@
 -- Document 01, "How much a contract says": "Prove that two results allowed by it are equal". Nearly every contract says r ≡ ..; here
 -- stand those that say the result another way. docs/CONTRACTS.md has a row for each public function.
-use Rattle.std.specs.Prelude.{ℕ, Bool, List, ◌≡◌}
+use Rattle.std.specs.Prelude.{ℕ, Bool, List, Result, ◌≡◌, Option, is_some, unwrap_or}
 use Rattle.block.specs.declared.Longs.{Longs}
 use Rattle.day.specs.Days.{Shows}
 use Rattle.day.specs.declared.Date.{Date}
 use Rattle.day.specs.declared.Day.{Day}
-use Rattle.day.specs.declared.Shown.{Shown}
-use Rattle.need.specs.declared.Stop.{Stop}
 use Rattle.period.specs.declared.Judged.{Judged}
+use Rattle.plan.specs.declared.Class.{Class}
 use Rattle.plan.specs.declared.Dose.{Dose}
 use Rattle.plan.specs.declared.Opened.{Opened}
 use Rattle.refusal.specs.declared.Refusal.{Refusal}
-use Rattle.register.specs.Paper.{released, stated}
-use Rattle.register.specs.Steps.{Call, nothing_but, Called}
-use Rattle.register.specs.declared.Released.{Released}
+use Rattle.register.specs.Paper.{nothing, released, stated}
+use Rattle.register.specs.Steps.{Call, Called}
 use Rattle.register.specs.declared.State.{State}
-use Rattle.verdict.specs.declared.Answer.{Answer}
-use Rattle.verdict.specs.declared.Classes.{Classes}
+use Rattle.verdict.specs.Answers.{Answer}
 
 pub record Once : Type 0 where
   -- day: `date_of`
-  pub date_of : (n : ℕ) (x y : Shown) → Shows n x → Shows n y → x ≡ y
+  pub date_of : (n : ℕ) (x y : Option Date) → Shows n x → Shows n y → x ≡ y
   -- day: `Day::new`, `first`, `last`, `open` and `closed` say the number; `Date::new` says its three fields
   pub day : (n : ℕ) (x y : Day) → x.number ≡ n → y.number ≡ n → x ≡ y
   pub date : (y m d : ℕ) (a b : Date) → (a.year ≡ y) × (a.month ≡ m) × (a.day ≡ d) → (b.year ≡ y) × (b.month ≡ m) × (b.day ≡ d) → a ≡ b
@@ -29,12 +26,10 @@ pub record Once : Type 0 where
   -- plan: `open_record` says the dose and the spare bytes
   pub opened : (d : Dose) (n : ℕ) (x y : Opened) → (x.dose ≡ d) × (x.spare ≡ n) → (y.dose ≡ d) × (y.spare ≡ n) → x ≡ y
   -- period: `judge_period` says rule and class
-  pub judged : (rule class : ℕ) (x y : Judged) → (x.rule ≡ rule) × (x.class ≡ class) → (y.rule ≡ rule) × (y.class ≡ class) → x ≡ y
-  -- verdict: `verdict_with_classes` says answer and classes
-  pub classes : (a : Answer) (cs : List ℕ) (x y : Classes) → (x.answer ≡ a) × (x.classes ≡ cs) → (y.answer ≡ a) × (y.classes ≡ cs) → x ≡ y
+  pub judged : (rule : ℕ) (class : Class) (x y : Judged) → (x.rule ≡ rule) × (x.class ≡ class) → (y.rule ≡ rule) × (y.class ≡ class) → x ≡ y
   -- need: `stop_of` says whether there is a stop day, and which
-  pub stop : (any : Bool) (day : ℕ) (x y : Stop) → (x.any ≡ any) × (x.day ≡ day) → (y.any ≡ any) × (y.day ≡ day) → x ≡ y
+  pub stop : (any : Bool) (day : ℕ) (x y : Option ℕ) → (is_some x ≡ any) × (unwrap_or x 0 ≡ day) → (is_some y ≡ any) × (unwrap_or y 0 ≡ day) → x ≡ y
   -- register: `clear`, `submit`, `sign` and `drop_plan`; `release`; `state_of`
-  pub calls : (r : List ℕ) (c : Call) (x y : Refusal) (s t : List ℕ) → Called r c (nothing_but x) s → Called r c (nothing_but y) t → (x ≡ y) × (s ≡ t)
-  pub releases : (r : List ℕ) (c : Call) (x y : Released) (s t : List ℕ) → Called r c (released x) s → Called r c (released y) t → (x ≡ y) × (s ≡ t)
-  pub states : (r : List ℕ) (c : Call) (x y : State) (s t : List ℕ) → Called r c (stated x) s → Called r c (stated y) t → (x ≡ y) × (s ≡ t)
+  pub calls : (r : List ℕ) (c : Call) (x y : Result (Unit {0}) Refusal) (s t : List ℕ) → Called r c nothing x s → Called r c nothing y t → (x ≡ y) × (s ≡ t)
+  pub releases : (r : List ℕ) (c : Call) (x y : Result ℕ Refusal) (s t : List ℕ) → Called r c released x s → Called r c released y t → (x ≡ y) × (s ≡ t)
+  pub states : (r : List ℕ) (c : Call) (x y : Result State Refusal) (s t : List ℕ) → Called r c stated x s → Called r c stated y t → (x ≡ y) × (s ≡ t)

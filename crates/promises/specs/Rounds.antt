@@ -1,13 +1,14 @@
 -- What document 02, W12, says of the steps in which supply/specs/Steps.antt tells supply, over supply's own answer.
+use Rattle.refusal.specs.Refusals.{refusal_in}
 use Rattle.std.specs.Prelude.{ℕ, ◌+◌, ◌*◌, ◌%◌, ◌≤◌, ◌<◌, true, cond, not, ◌||◌, List, [], ◌≡◌, eqb, length}
 use Rattle.pause.specs.Pauses.{are_out, pauses_in}
 use Rattle.pause.specs.declared.Pause.{Pause}
 use Rattle.plan.specs.Fields.{interval_of, first_of}
 use Rattle.plan.specs.Periods.{blocks_of, block_at, is_period}
 use Rattle.supply.specs.Steps.{Counted, counted_of}
-use Rattle.supply.specs.Supply.{supply_of, packed_supply_of, refusal_in, lasting_in}
+use Rattle.supply.specs.Supply.{supply_of, packed_supply_of, lasting_in}
 use Rattle.supply.specs.declared.Lasting.{Lasting}
-use Rattle.supply.specs.declared.Supply.{Supply}
+use Rattle.supply.specs.Answers.{Supply}
 
 -- supply in steps: with a lent list of pauses, and in the call that the screen makes, with 8 bytes for each
 abbrev pub in_steps : List ℕ → ℕ → ℕ → ℕ → List Pause → Counted

@@ -1,14 +1,14 @@
 -- What document 02, W1, says of the set of dates, over supply's own answers: `supply` is the answer by each choice, and `set` the set.
-use Rattle.std.specs.Prelude.{ℕ, ◌≤◌, ◌<◌, true, false, List, ◌⊎◌, ◌≡◌}
+use Rattle.refusal.specs.Refusals.{refusal_in}
+use Rattle.std.specs.Prelude.{ℕ, ◌≤◌, ◌<◌, true, false, List, ◌⊎◌, ◌≡◌, Ok}
 use Rattle.day.specs.Days.{open_mark}
 use Rattle.need.specs.Need.{fixed_or_mixed}
 use Rattle.plan.specs.Periods.{blocks_of, is_period, class_of}
-use Rattle.supply.specs.Dates.{is_ranging, is_needed, no_dates, dates_in, refusal_in_set}
-use Rattle.supply.specs.Supply.{refusal_in, lasting_in}
+use Rattle.supply.specs.Dates.{is_ranging, is_needed, no_dates, dates_in}
+use Rattle.supply.specs.Supply.{lasting_in}
 use Rattle.supply.specs.declared.Dates.{Dates}
-use Rattle.supply.specs.declared.DateSet.{DateSet}
-use Rattle.supply.specs.declared.DateSet.TheVariants.{Given}
-use Rattle.supply.specs.declared.Supply.{Supply}
+use Rattle.supply.specs.Answers.{DateSet}
+use Rattle.supply.specs.Answers.{Supply}
 
 -- "0 covered days, or whose choice 24 would refuse"
 abbrev pub HasNoDay : Supply → Type 0
@@ -40,9 +40,9 @@ abbrev pub NeedOnly : List ℕ → Type 0
 NeedOnly p = (b : ℕ) → b < blocks_of p → is_period p b ≡ true → fixed_or_mixed (class_of p b) ≡ false
 
 pub record Sets (p : List ℕ) (start : ℕ) (supply : ℕ → Supply) (set : DateSet) : Type 0 where
-  pub given : (x : Dates) → set ≡ Given x → DatesAre p start supply x
+  pub given : (x : Dates) → set ≡ Ok x → DatesAre p start supply x
   -- "all dates absent"
-  pub refused : ((refusal_in_set set).number ≡ 0 → ⊥) → dates_in set ≡ no_dates
+  pub refused : ((refusal_in set).number ≡ 0 → ⊥) → dates_in set ≡ no_dates
   -- where there is one end date it does not matter by which amounts: the whole answers are the same
   pub one_answer : is_ranging start p ≡ false → supply 1 ≡ supply 2
   -- "For a need-only plan 3 and 4 are proved equal.": the whole answers, and the dates

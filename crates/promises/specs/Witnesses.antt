@@ -1,7 +1,8 @@
 -- No promise holds for want of a case: a plan that is accepted and one that is not, a history that does release, a plan with doses
 -- in both parts on one day, supplies that cover days and stop for each reason, sets of dates of each kind, and supplies in fewer steps
 -- than days.
-use Rattle.std.specs.Prelude.{ℕ, ◌*◌, true, false, List, [], ◌∷◌, ◌≡◌, length, replicate}
+use Rattle.refusal.specs.Refusals.{refusal_in}
+use Rattle.std.specs.Prelude.{ℕ, ◌*◌, true, false, List, [], ◌∷◌, ◌≡◌, length, replicate, Ok}
 use Rattle.day.specs.Days.{open_mark}
 use Rattle.doses.specs.Doses.{doses_on}
 use Rattle.layout.specs.Layout.{Written}
@@ -14,12 +15,10 @@ use Rattle.register.specs.Reached.{seen, IsBytes, Reached}
 use Rattle.register.specs.Runs.{numbers_of}
 use Rattle.register.specs.Steps.{Call.clear, Call.submit, Call.sign, Call.release}
 use Rattle.split.specs.Parts.{has_run}
-use Rattle.split.specs.Split.{split_of, refusal_in}
+use Rattle.split.specs.Split.{split_of}
 use Rattle.supply.specs.Dates.{dates_of, packed_dates_of}
 use Rattle.supply.specs.Steps.{days_from}
 use Rattle.supply.specs.Supply.{supply_of, packed_supply_of}
-use Rattle.supply.specs.declared.DateSet.TheVariants.{Given}
-use Rattle.supply.specs.declared.Supply.TheVariants.{Lasts}
 use Rattle.promises.specs.Cases.{one_daily, two_daily, one_slot, output, signed_plan, A, B}
 use Rattle.promises.specs.Demand2.{IsAccepted, IsLowest}
 use Rattle.promises.specs.Demand3.{fixed_part, need_part}
@@ -61,28 +60,28 @@ pub record Witnesses : Type 0 where
   pub fixed_dose : doses_on (fixed_part both_marks part_room part_room) 6548 ≡ unmarked 100 ∷ []
   pub need_dose : doses_on (need_part both_marks part_room part_room) 6548 ≡ marked 100 ∷ []
   -- supplies that stop for reason 1, 2 and 3, with a list of pauses and in the call that the screen makes
-  pub needs_more : supply_of (plan two_daily) 8077 500 2 [] ≡ Lasts (record { days = 2; last = 8078; rest = 100; reason = 1 })
-  pub dosage_ends : supply_of (plan one_daily) 8077 50000 2 [] ≡ Lasts (record { days = 29; last = 8105; rest = 47100; reason = 2 })
-  pub calendar_ends : supply_of (plan two_daily) 73047 500 2 [] ≡ Lasts (record { days = 2; last = 73048; rest = 100; reason = 3 })
-  pub packed_needs_more : packed_supply_of (plan two_daily) 8077 500 2 [] ≡ Lasts (record { days = 2; last = 8078; rest = 100; reason = 1 })
-  pub packed_dosage_ends : packed_supply_of (plan one_daily) 8077 50000 2 [] ≡ Lasts (record { days = 29; last = 8105; rest = 47100; reason = 2 })
-  pub packed_calendar_ends : packed_supply_of (plan two_daily) 73047 500 2 [] ≡ Lasts (record { days = 2; last = 73048; rest = 100; reason = 3 })
+  pub needs_more : supply_of (plan two_daily) 8077 500 2 [] ≡ Ok (record { days = 2; last = 8078; rest = 100; reason = 1 })
+  pub dosage_ends : supply_of (plan one_daily) 8077 50000 2 [] ≡ Ok (record { days = 29; last = 8105; rest = 47100; reason = 2 })
+  pub calendar_ends : supply_of (plan two_daily) 73047 500 2 [] ≡ Ok (record { days = 2; last = 73048; rest = 100; reason = 3 })
+  pub packed_needs_more : packed_supply_of (plan two_daily) 8077 500 2 [] ≡ Ok (record { days = 2; last = 8078; rest = 100; reason = 1 })
+  pub packed_dosage_ends : packed_supply_of (plan one_daily) 8077 50000 2 [] ≡ Ok (record { days = 29; last = 8105; rest = 47100; reason = 2 })
+  pub packed_calendar_ends : packed_supply_of (plan two_daily) 73047 500 2 [] ≡ Ok (record { days = 2; last = 73048; rest = 100; reason = 3 })
   -- W1: a supply by each of its two choices; a set with a minimum, a maximum and dates 3 and 4, all different, one with an end date, and
   -- one of a need-only plan; with a list of pauses and in the call that the screen makes
-  pub by_both : supply_of (plan both_kinds) 8077 1200 3 [] ≡ Lasts (record { days = 2; last = 8078; rest = 200; reason = 1 })
-  pub by_needed : supply_of (plan both_kinds) 8077 1200 4 [] ≡ Lasts (record { days = 4; last = 8080; rest = 0; reason = 1 })
-  pub four_dates : dates_of (plan both_kinds) 8077 1200 [] ≡ Given (record { end = open_mark; minimum = 8088; maximum = 8082; third = 8078; fourth = 8080 })
-  pub end_date : dates_of (plan one_daily) 8077 50000 [] ≡ Given (record { end = 8105; minimum = open_mark; maximum = open_mark; third = open_mark; fourth = open_mark })
+  pub by_both : supply_of (plan both_kinds) 8077 1200 3 [] ≡ Ok (record { days = 2; last = 8078; rest = 200; reason = 1 })
+  pub by_needed : supply_of (plan both_kinds) 8077 1200 4 [] ≡ Ok (record { days = 4; last = 8080; rest = 0; reason = 1 })
+  pub four_dates : dates_of (plan both_kinds) 8077 1200 [] ≡ Ok (record { end = open_mark; minimum = 8088; maximum = 8082; third = 8078; fourth = 8080 })
+  pub end_date : dates_of (plan one_daily) 8077 50000 [] ≡ Ok (record { end = 8105; minimum = open_mark; maximum = open_mark; third = open_mark; fourth = open_mark })
   pub need_only : NeedOnly (plan only_need)
-  pub need_dates : dates_of (plan only_need) 8077 1200 [] ≡ Given (record { end = open_mark; minimum = open_mark; maximum = open_mark; third = 8080; fourth = 8080 })
-  pub packed_four_dates : packed_dates_of (plan both_kinds) 8077 1200 [] ≡ Given (record { end = open_mark; minimum = 8088; maximum = 8082; third = 8078; fourth = 8080 })
-  pub packed_end_date : packed_dates_of (plan one_daily) 8077 50000 [] ≡ Given (record { end = 8105; minimum = open_mark; maximum = open_mark; third = open_mark; fourth = open_mark })
-  pub packed_need_dates : packed_dates_of (plan only_need) 8077 1200 [] ≡ Given (record { end = open_mark; minimum = open_mark; maximum = open_mark; third = 8080; fourth = 8080 })
+  pub need_dates : dates_of (plan only_need) 8077 1200 [] ≡ Ok (record { end = open_mark; minimum = open_mark; maximum = open_mark; third = 8080; fourth = 8080 })
+  pub packed_four_dates : packed_dates_of (plan both_kinds) 8077 1200 [] ≡ Ok (record { end = open_mark; minimum = 8088; maximum = 8082; third = 8078; fourth = 8080 })
+  pub packed_end_date : packed_dates_of (plan one_daily) 8077 50000 [] ≡ Ok (record { end = 8105; minimum = open_mark; maximum = open_mark; third = open_mark; fourth = open_mark })
+  pub packed_need_dates : packed_dates_of (plan only_need) 8077 1200 [] ≡ Ok (record { end = open_mark; minimum = open_mark; maximum = open_mark; third = 8080; fourth = 8080 })
   -- W12: a call in a plan of one iterated period, without pauses, with 29 days in two steps, the first of which takes four rounds of seven
   -- days; and one with as many steps as a round has days: three rounds at once, and six days up to one that needs more than the rest
   pub in_one_period : InOnePeriod (plan weekly) 8077 [] 1
   pub seven_days : interval_of (block_at (plan weekly) 1) ≡ 7
   pub four_rounds : days_from 2 (plan weekly) [] (stop_day 2 (plan weekly)) 8077 50000 ≡ 4 * 7
-  pub two_steps : in_steps (plan weekly) 8077 50000 2 [] ≡ record { answer = Lasts (record { days = 29; last = 8105; rest = 49500; reason = 2 }); count = 2 }
-  pub packed_two_steps : packed_in_steps (plan weekly) 8077 50000 2 [] ≡ record { answer = Lasts (record { days = 29; last = 8105; rest = 49500; reason = 2 }); count = 2 }
-  pub seven_steps : in_steps (plan weekly) 8078 350 2 [] ≡ record { answer = Lasts (record { days = 27; last = 8104; rest = 50; reason = 1 }); count = 7 }
+  pub two_steps : in_steps (plan weekly) 8077 50000 2 [] ≡ record { answer = Ok (record { days = 29; last = 8105; rest = 49500; reason = 2 }); count = 2 }
+  pub packed_two_steps : packed_in_steps (plan weekly) 8077 50000 2 [] ≡ record { answer = Ok (record { days = 29; last = 8105; rest = 49500; reason = 2 }); count = 2 }
+  pub seven_steps : in_steps (plan weekly) 8078 350 2 [] ≡ record { answer = Ok (record { days = 27; last = 8104; rest = 50; reason = 1 }); count = 7 }

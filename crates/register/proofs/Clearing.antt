@@ -10,11 +10,10 @@ use borrow.Author.Tests.{lt-ltb}
 use Rattle.below.specs.Lists.{join_below}
 use Rattle.below.proofs.Lists.{join_zero, join_more}
 use Rattle.block.proofs.Put.{put_in, length_put}
-use Rattle.refusal.specs.declared.Refusal.{Refusal}
 use Rattle.refusal.specs.Refusals.{alone}
 use Rattle.register.specs.Slots.{slots_of, with_slot, held_at, is_held}
 use Rattle.register.specs.Sound.{sound}
-use Rattle.register.specs.Steps.{Call.clear, Call.drop as dropped, done, refused_by, free_slot, changed, given, nothing_but}
+use Rattle.register.specs.Steps.{Call.clear, Call.drop as dropped, done, refused_by, free_slot, changed}
 use Rattle.register.proofs.Update.{slot_within}
 use Rattle.register.proofs.Writing.{length_slot_bytes}
 
@@ -58,10 +57,6 @@ module _ (r : List ℕ) where
   unfolding refused_by
   clear_passed {n} a b = let l : 0 < n = omega arith in rw (← a, lt-ltb _ _ l)
 
-  pub clear_given : {x : Refusal} → x ≡ done → nothing_but x ≡ given r clear
-  unfolding given
-  clear_given e = rw e
-
 -- drop
 module _ (r : List ℕ) (number : ℕ) where
   pub drop_unsound : sound r ≡ false → refused_by r (dropped number) ≡ alone 30
@@ -76,10 +71,6 @@ module _ (r : List ℕ) (number : ℕ) where
   unfolding refused_by
   drop_passed e f = rw (e, f)
 
-  pub drop_given : {x : Refusal} → x ≡ done → nothing_but x ≡ given r (dropped number)
-  unfolding given
-  drop_given e = rw e
-
-  pub drop_left : {h : ℕ} → h ≡ held_at r number → {s : List ℕ} → s ≡ with_slot r h free_slot → s ≡ changed r (dropped number)
+  pub drop_left : {h : ℕ} → held_at r number ≡ h → {s : List ℕ} → s ≡ with_slot r h free_slot → s ≡ changed r (dropped number)
   unfolding changed
-  drop_left a b = b ∙ rw a
+  drop_left a b = b ∙ rw (← a)

@@ -12,6 +12,8 @@ use Rattle.plan.specs.Fields.{plan_number_of}
 use Rattle.register.specs.Reached.{CanCall}
 use Rattle.register.specs.Slots.{slot_under, held_at, slot_bytes}
 use Rattle.register.specs.Sound.{sound}
+use Rattle.refusal.specs.declared.Refusal.{Refusal}
+use Rattle.std.specs.Prelude.{Result}
 use Rattle.register.specs.Steps.{Call, Call.clear, Call.submit, Call.sign, Call.release, Call.drop, Call.state, Answered, is_done, refused_by, free_slot, changed, after, Called}
 use Rattle.register.proofs.LawBytes.{bytes_slot, bytes_with, bytes_at, bytes_plan, bytes_cleared}
 use Rattle.register.proofs.LawCalls.{clear_sound, submit_sound, sign_changed, sign_sound, drop_sound}
@@ -29,7 +31,7 @@ module _ (r : List ℕ) (c : Call) where
   after_refused e = rw e
 
 -- a call's contract allows one answer and one register alone
-pub called_once : {r : List ℕ} {c : Call} {a b : Answered} {s t : List ℕ} → Called r c a s → Called r c b t → (a ≡ b) × (s ≡ t)
+pub called_once : {X : Type 0} {give : Answered → X} {r : List ℕ} {c : Call} {a b : Result X Refusal} {s t : List ℕ} → Called r c give a s → Called r c give b t → (a ≡ b) × (s ≡ t)
 called_once x y = (x.answer ∙ sym y.answer, x.bytes ∙ sym y.bytes)
 
 -- a call that is not refused

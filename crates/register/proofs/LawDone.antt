@@ -1,4 +1,5 @@
 -- What a call that is not refused has shown, test by test. Assumes nothing.
+use Rattle.std.specs.Prelude.{Err, Ok}
 use Prim.Native.Nat.{ℕ, ◌≤◌, ◌<◌}
 use mathlib.Core.Bool.{Bool, true, false, cond}
 use mathlib.Core.List.{List, [], ◌∷◌}
@@ -17,8 +18,7 @@ use Rattle.refusal.specs.Refusals.{rule_at, alone}
 use Rattle.refusal.specs.declared.Refusal.{Refusal}
 use Rattle.verdict.proofs.Lowest.{row_form}
 use Rattle.verdict.specs.Verdict.{plan_limit, breaks, first_rule, first_block, verdict_of}
-use Rattle.verdict.specs.declared.Answer.{Answer}
-use Rattle.verdict.specs.declared.Answer.TheVariants.{Accepted, Broken}
+use Rattle.verdict.specs.Answers.{Answer}
 use Rattle.register.specs.Slots.{slots_of, first_signer, second_signer, is_held, slot_under, plan_under}
 use Rattle.register.specs.Sound.{is_accepted, sound}
 use Rattle.register.specs.Steps.{Call.clear, Call.submit, Call.sign, Call.release, Call.drop, is_done, unless_broken, is_stale, is_full, same, refused_by}
@@ -34,7 +34,7 @@ some_rule p l z =
     let hit : breaks p (first_rule p) b ≡ true = (block_facts (blocks_of p) (breaks p) (first_rule p)).here (block_some (blocks_of p) (breaks p) 18 l) in
     true_not_false hit (ap (λ (k : ℕ). breaks p k b) z ∙ row_form p {k = 0} (omega arith) b ∙ form_zero p b)
 
-pub broken_number : (p : List ℕ) (q : Refusal) → verdict_of p ≡ Broken q → is_done q ≡ false
+pub broken_number : (p : List ℕ) (q : Refusal) → verdict_of p ≡ Err q → is_done q ≡ false
 unfolding verdict_of
 broken_number p q e =
     ⊎_elim
@@ -55,9 +55,9 @@ passed : (t : Bool) (q x : Refusal) → is_done q ≡ false → is_done (cond t 
 passed true q x n e = absurd (true_not_false e n)
 passed false q x n e = (refl, e)
 
-judged : (a : Answer) (x : Refusal) → ((q : Refusal) → a ≡ Broken q → is_done q ≡ false) → is_done (unless_broken a x) ≡ true → (is_accepted a ≡ true) × (is_done x ≡ true)
-judged (Accepted n) x h e = (refl, e)
-judged (Broken q) x h e = absurd (true_not_false e (h q refl))
+judged : (a : Answer) (x : Refusal) → ((q : Refusal) → a ≡ Err q → is_done q ≡ false) → is_done (unless_broken a x) ≡ true → (is_accepted a ≡ true) × (is_done x ≡ true)
+judged (Ok n) x h e = (refl, e)
+judged (Err q) x h e = absurd (true_not_false e (h q refl))
 
 pub record Submitted (r p : List ℕ) : Type 0 where
   pub sound_was : sound r ≡ true
@@ -139,8 +139,8 @@ cleared r e =
 
 -- and a call that has all of them is not refused
 unless_accepted : (a : Answer) (x : Refusal) → is_accepted a ≡ true → unless_broken a x ≡ x
-unless_accepted (Accepted n) x e = refl
-unless_accepted (Broken q) x e = absurd (true_not_false e refl)
+unless_accepted (Ok n) x e = refl
+unless_accepted (Err q) x e = absurd (true_not_false e refl)
 
 pub submit_done : (r p : List ℕ) → Submitted r p → is_done (refused_by r (submit p)) ≡ true
 unfolding refused_by

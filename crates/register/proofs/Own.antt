@@ -1,5 +1,6 @@
 -- Reading an encoded slot gives back what it was encoded from; an encoded slot is right, and a right slot of bytes is the
 -- encoding of what is read from it. Assumes nothing.
+use Rattle.std.specs.Prelude.{Err, Ok}
 use Prim.Native.Nat.{ℕ, zero, suc, ◌+◌, ◌-◌, ◌*◌, ◌/◌, ◌%◌, ◌≤◌, ◌<◌}
 use mathlib.Core.Bool.{Bool, true, false, cond, not, ◌&&◌, ◌||◌}
 use mathlib.Core.List.{List, [], ◌∷◌, ◌++◌}
@@ -21,8 +22,7 @@ use Rattle.layout.proofs.Blocks.{length_filled, byte_filled, byte_sealed}
 use Rattle.layout.proofs.Bytes.{part_bytes_lem}
 use Rattle.layout.specs.Layout.{filled}
 use Rattle.verdict.proofs.Exactly.{accepted_only}
-use Rattle.verdict.specs.declared.Answer.{Answer}
-use Rattle.verdict.specs.declared.Answer.TheVariants.{Accepted, Broken}
+use Rattle.verdict.specs.Answers.{Answer}
 use Rattle.verdict.specs.Verdict.{verdict_of}
 use Rattle.register.specs.Slots.{blocks_in, first_signer, second_signer, is_free, plan_in, rest_of, control_bytes, slot_bytes}
 use Rattle.register.specs.Sound.{is_accepted, control_right, signers_right, slot_right}
@@ -149,9 +149,9 @@ module _ (s : List ℕ) where
       (both_and f.content f.rest)
 
 -- an accepted plan is 1 to 32 whole blocks: rule 1
-accepted_some : (x : Answer) → is_accepted x ≡ true → (n : ℕ) × (x ≡ Accepted n)
-accepted_some (Accepted n) e = (n, refl)
-accepted_some (Broken r) e = absurd (true_not_false e refl)
+accepted_some : (x : Answer) → is_accepted x ≡ true → (n : ℕ) × (x ≡ Ok n)
+accepted_some (Ok n) e = (n, refl)
+accepted_some (Err r) e = absurd (true_not_false e refl)
 
 module _ (p : List ℕ) (e : is_accepted (verdict_of p) ≡ true) where
   long_right : (length p ≡ 0 → ⊥) × (length p % 512 ≡ 0) × (length p ≤ 16384)

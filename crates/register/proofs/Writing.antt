@@ -28,28 +28,26 @@ pub length_control : (blocks first second : ℕ) → length (control_bytes block
 unfolding control_bytes filled bytes_of
 length_control blocks first second = length_sealed (filled (4 ∷ blocks ∷ 0 ∷ 0 ∷ bytes_of 4 first ++ bytes_of 4 second)) refl
 
--- a slot, run by run over any slot: the control block's part came back as c, with the plan it is t, and the part behind that
--- came back as z
-pub slot_filled : (s p : List ℕ) (first second : ℕ) → length s ≡ 16896 → length p ≤ 16384 → {blocks : ℕ} → blocks ≡ length p / 512 → {c t z : List ℕ} → c ≡ control_bytes blocks first second → t ≡ put (put_mid 0 512 s c) 512 p →
-    z ≡ replicate (length (take (16896 - (512 + length p)) (drop (512 + length p) t))) 0 →
-    put_mid (512 + length p) (16896 - (512 + length p)) t z ≡ slot_bytes p first second
+-- a slot, run by run over any slot: with its control block c and the plan it is t, and the part behind that came back as z
+pub slot_filled : (s p : List ℕ) (first second : ℕ) → length s ≡ 16896 → length p ≤ 16384 → {blocks : ℕ} → blocks ≡ length p / 512 → {c t z : List ℕ} → c ≡ control_bytes blocks first second → t ≡ put (put s 0 c) 512 p →
+    z ≡ replicate (length (take (length t - (512 + length p)) (drop (512 + length p) t))) 0 →
+    put_mid (512 + length p) (length t - (512 + length p)) t z ≡ slot_bytes p first second
 unfolding slot_bytes
 slot_filled s p first second n l {blocks} b {c} {t} {z} e f g =
     let k : length c ≡ 512 = rw e (length_control blocks first second) in
-    let one : t ≡ put (put s 0 c) 512 p = f ∙ rw (part_put s c 0 512 (omega arith) (omega arith) k) in
-    let long : length t ≡ 16896 = rw one (length_put _ _ _ ∙ length_put _ _ _ ∙ n) in
-    let more : length (take (16896 - (512 + length p)) (drop (512 + length p) t)) ≡ 16384 - length p =
-    length-take-le (16896 - (512 + length p)) (drop (512 + length p) t) (rw length-drop (omega arith)) ∙ omega arith in
+    let long : length t ≡ 16896 = rw f (length_put _ _ _ ∙ length_put _ _ _ ∙ n) in
+    let more : length (take (length t - (512 + length p)) (drop (512 + length p) t)) ≡ 16384 - length p =
+    length-take-le (length t - (512 + length p)) (drop (512 + length p) t) (rw length-drop (omega arith)) ∙ omega arith in
     let zero : z ≡ replicate (16384 - length p) 0 = g ∙ rw more in
     let m : length z ≡ 16384 - length p = rw zero (length-replicate (16384 - length p) 0) in
-    let two : put_mid (512 + length p) (16896 - (512 + length p)) t z ≡ put t (512 + length p) z =
-    part_put t z (512 + length p) 16896 (omega arith) (omega arith) (omega arith) in
+    let two : put_mid (512 + length p) (length t - (512 + length p)) t z ≡ put t (512 + length p) z =
+    part_put t z (512 + length p) (length t) (omega arith) (omega arith) (omega arith) in
     let none : Front 16896 [] s = record { front = refl; whole = n } in
     let control = front_more none 0 c refl (omega arith) in
     let plan = front_more control 512 p k (omega arith) in
     let rest = front_more plan (512 + length p) z (rw length-append (omega arith)) (omega arith) in
     let all : put (put (put s 0 c) 512 p) (512 + length p) z ≡ c ++ p ++ z = front_all rest (rw (length-append, length-append) (omega arith)) in
-    two ∙ rw (one, all, zero, e, b) (append_assoc (control_bytes (length p / 512) first second) p (replicate (16384 - length p) 0))
+    two ∙ rw (f, all, zero, e, b) (append_assoc (control_bytes (length p / 512) first second) p (replicate (16384 - length p) 0))
 
 pub length_slot_bytes : (p : List ℕ) (first second : ℕ) → length p ≤ 16384 → length (slot_bytes p first second) ≡ 16896
 unfolding slot_bytes

@@ -1,12 +1,16 @@
--- What each call gives a caller, as an answer.
-use Rattle.register.specs.declared.Released.{Released}
+-- What each call gives a caller, of its answer.
+use Rattle.std.specs.Prelude.{ℕ}
 use Rattle.register.specs.declared.State.{State}
 use Rattle.register.specs.Steps.{Answered}
 
+-- clear, submit, sign and drop: that they were not refused
+abbrev pub nothing : Answered → Unit {0}
+nothing a = tt
+
 -- release: "The plan into an output buffer and its length"
-abbrev pub released : Released → Answered
-released x = record { refusal = x.refusal; length = x.length; revision = 0; signers = 0 }
+abbrev pub released : Answered → ℕ
+released a = a.length
 
 -- "State: revision and count of signers."
-abbrev pub stated : State → Answered
-stated x = record { refusal = x.refusal; length = 0; revision = x.revision; signers = x.signers }
+abbrev pub stated : Answered → State
+stated a = record { revision = a.revision; signers = a.signers }

@@ -55,9 +55,13 @@ slot_bytes plan first second =
 abbrev pub with_slot : List ℕ → ℕ → List ℕ → List ℕ
 with_slot r i s = put r (i * slot_size) s
 
--- slot i holds a plan with this number
+-- a slot holds a plan with this number
+abbrev pub holds : List ℕ → ℕ → Bool
+holds s number = not (is_free s) && eqb (plan_number_of (plan_in s)) number
+
+-- slot i does
 abbrev pub holds_at : List ℕ → ℕ → ℕ → Bool
-holds_at r number i = not (is_free (slot_at r i)) && eqb (plan_number_of (plan_in (slot_at r i))) number
+holds_at r number i = holds (slot_at r i) number
 
 -- the slot that holds this number; the number of slots where none does
 unfoldable pub held_at : List ℕ → ℕ → ℕ
@@ -69,6 +73,9 @@ is_held r number = ltb (held_at r number) (slots_of r)
 -- "lowest free slot"; the number of slots where none is free
 unfoldable pub free_at : List ℕ → ℕ
 free_at r = first_below (slots_of r) (λ i. is_free (slot_at r i))
+
+abbrev pub has_free : List ℕ → Bool
+has_free r = ltb (free_at r) (slots_of r)
 
 -- the slot and the plan under a number that is held
 abbrev pub slot_under : List ℕ → ℕ → List ℕ

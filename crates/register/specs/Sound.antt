@@ -1,17 +1,15 @@
 -- "A register is sound if ..", as tests on its bytes.
-use Rattle.std.specs.Prelude.{ℕ, Bool, true, false, cond, not, ◌&&◌, ◌||◌, List, eqb, leb, ltb, take, drop}
+use Rattle.std.specs.Prelude.{ℕ, Bool, cond, not, ◌&&◌, ◌||◌, List, eqb, leb, ltb, take, drop, is_ok}
 use Rattle.below.specs.Below.{all_below, any_below}
 use Rattle.block.specs.Bytes.{byte_at, is_zero}
 use Rattle.block.specs.Sums.{sums_right}
 use Rattle.plan.specs.Fields.{plan_number_of}
-use Rattle.verdict.specs.declared.Answer.{Answer}
-use Rattle.verdict.specs.declared.Answer.TheVariants.{Accepted, Broken}
+use Rattle.verdict.specs.Answers.{Answer}
 use Rattle.verdict.specs.Verdict.{verdict_of}
 use Rattle.register.specs.Slots.{slots_of, slot_at, control_of, blocks_in, first_signer, second_signer, is_free, plan_in, rest_of, holds_at}
 
 abbrev pub is_accepted : Answer → Bool
-is_accepted (Accepted n) = true
-is_accepted (Broken r) = false
+is_accepted a = is_ok a
 
 -- "every control block is right in form and sums"
 unfoldable pub control_right : List ℕ → Bool

@@ -1,14 +1,13 @@
 -- What each call on a register answers, and what bytes it leaves. A call is refused with a number and a place; 0 and 255 stand
 -- for a call that is not.
-use Rattle.std.specs.Prelude.{ℕ, ◌*◌, Bool, true, false, cond, not, ◌&&◌, List, [], ◌∷◌, ◌++◌, ◌≡◌, eqb, ltb, length, drop as from}
+use Rattle.std.specs.Prelude.{ℕ, ◌*◌, Bool, true, false, cond, not, ◌&&◌, List, [], ◌∷◌, ◌++◌, ◌≡◌, eqb, ltb, length, drop as from, Err, Ok, Result}
 use Rattle.below.specs.Lists.{join_below}
 use Rattle.plan.specs.Fields.{plan_number_of, revision_of}
 use Rattle.refusal.specs.declared.Refusal.{Refusal}
 use Rattle.refusal.specs.Refusals.{alone}
-use Rattle.verdict.specs.declared.Answer.{Answer}
-use Rattle.verdict.specs.declared.Answer.TheVariants.{Accepted, Broken}
+use Rattle.verdict.specs.Answers.{Answer}
 use Rattle.verdict.specs.Verdict.{verdict_of}
-use Rattle.register.specs.Slots.{slot_size, room_size, slots_of, first_signer, second_signer, slot_bytes, with_slot, held_at, is_held, free_at, slot_under, plan_under}
+use Rattle.register.specs.Slots.{slot_size, room_size, slots_of, first_signer, second_signer, slot_bytes, with_slot, held_at, is_held, free_at, has_free, slot_under, plan_under}
 use Rattle.register.specs.Sound.{sound}
 
 -- the calls; of release's output buffer, its bytes ahead of the call
@@ -37,8 +36,8 @@ is_done x = eqb x.number 0
 
 -- a refusal of the verdict is passed on
 abbrev pub unless_broken : Answer → Refusal → Refusal
-unless_broken (Accepted n) x = x
-unless_broken (Broken r) x = r
+unless_broken (Ok n) x = x
+unless_broken (Err r) x = r
 
 -- "32 number held, revision not greater"
 abbrev pub is_stale : List ℕ → List ℕ → Bool
@@ -47,7 +46,7 @@ is_stale r p =
 
 -- "31 number not held and no slot free"
 abbrev pub is_full : List ℕ → List ℕ → Bool
-is_full r p = not (is_held r (plan_number_of p)) && not (ltb (free_at r) (slots_of r))
+is_full r p = not (is_held r (plan_number_of p)) && not (has_free r)
 
 -- two lists of bytes are the same
 unfoldable pub same : List ℕ → List ℕ → Bool
@@ -144,7 +143,11 @@ unfoldable pub room_after : List ℕ → ℕ → List ℕ → List ℕ
 room_after r n room =
     cond (is_done (refused_by r (release n room))) (plan_under r n ++ from (length (plan_under r n)) room) room
 
--- a call on a register, as one statement: its answer, and each byte of the register afterwards
-pub record Called (before : List ℕ) (c : Call) (a : Answered) (left : List ℕ) : Type 0 where
-  pub answer : a ≡ answered before c
+-- what a caller gets: what he asks of the answer, or why the call is refused
+abbrev pub outcome : {X : Type 0} → (Answered → X) → Answered → Result X Refusal
+outcome give a = cond (is_done a.refusal) (Ok (give a)) (Err a.refusal)
+
+-- a call on a register, as one statement: what the caller gets, and each byte of the register afterwards
+pub record Called {X : Type 0} (before : List ℕ) (c : Call) (give : Answered → X) (got : Result X Refusal) (left : List ℕ) : Type 0 where
+  pub answer : got ≡ outcome give (answered before c)
   pub bytes : left ≡ after before c

@@ -1,119 +1,87 @@
 // The calls that write a register.
 ghost use Rattle.std.specs.Prelude.{◌≡◌};
-ghost use Rattle.register.specs.Steps.{Call.clear, Call.submit, Call.sign, Call.drop as dropped, nothing_but, same, Called};
+ghost use Rattle.register.specs.Steps.{Call.clear, Call.submit, Call.sign, Call.drop as dropped, Called};
+ghost use Rattle.register.specs.Paper.{nothing};
 
 use crate::fill::{free_slot, put_slot};
-use crate::slots::{free_at, held_at, holding_in, plan_in, slot_at, slots_of};
-use crate::sound::is_sound;
+use crate::slots::{first_signer, free_at, has_two, held_at, held_in, plan_in, slots_of};
+use crate::sound::check_sound;
 use plan::{plan_number_of, revision_of};
-use refusal::Refusal;
-use verdict::{Answer, refusal_of, verdict};
+use refusal::{Refusal, refusal_in};
+use verdict::verdict;
 
 // Frees every slot, whatever stood in it.
-pub fn clear(register: &mut [u8]) -> Refusal
-    ensures { Called register.old clear (nothing_but result) register.new }
+pub fn clear(register: &mut [u8]) -> Result<(), Refusal>
+    ensures { Called register.old clear nothing result register.new }
 {
-    let n = slots_of(&*register);
+    let n = slots_of(&*register).len();
     if n == 0 {
-        return Refusal::alone(30);
+        return Err(Refusal::alone(30));
     }
     for i in 0..n {
         free_slot(&mut *register, i);
     }
-    Refusal::alone(0)
+    Ok(())
 }
 
 // Frees the slot of the plan with this number.
-pub fn drop_plan(register: &mut [u8], number: u32) -> Refusal
-    ensures { Called register.old (dropped number) (nothing_but result) register.new }
+pub fn drop_plan(register: &mut [u8], number: u32) -> Result<(), Refusal>
+    ensures { Called register.old (dropped number) nothing result register.new }
 {
-    if !is_sound(&*register) {
-        return Refusal::alone(30);
-    }
-    let held = held_at(&*register, number);
-    if slots_of(&*register) <= held {
-        return Refusal::alone(33);
-    }
+    check_sound(&*register)?;
+    let held = held_in(&*register, number)?;
     free_slot(&mut *register, held);
-    Refusal::alone(0)
+    Ok(())
 }
 
 // Takes a plan in: in the place of the plan that has its number, or into the lowest free slot. Nobody has signed it then.
-pub fn submit(register: &mut [u8], plan: &[u8]) -> Refusal
-    ensures { Called register.old (submit plan.now) (nothing_but result) register.new }
+pub fn submit(register: &mut [u8], plan: &[u8]) -> Result<(), Refusal>
+    ensures { Called register.old (submit plan.now) nothing result register.new }
 {
-    if !is_sound(&*register) {
-        return Refusal::alone(30);
-    }
+    check_sound(&*register)?;
+    // Kept: document 01 names let .. else for this place, and no `?`.
     let answer = verdict(plan);
-    let Answer::Accepted(_) = answer else {
-        return refusal_of(answer);
+    let Ok(_) = answer else {
+        return Err(refusal_in(answer));
     };
-    let n = slots_of(&*register);
-    let held = held_at(&*register, plan_number_of(plan));
-    if held < n {
-        let old = holding_in(slot_at(&*register, held));
-        if revision_of(plan) <= old.revision {
-            return Refusal::alone(32);
+    if let Some(held) = held_at(&*register, plan_number_of(plan)) {
+        let old = &slots_of(&*register)[held];
+        if revision_of(plan) <= revision_of(plan_in(old)) {
+            return Err(Refusal::alone(32));
         }
         put_slot(&mut *register, held, plan, 0, 0);
-        return Refusal::alone(0);
+        return Ok(());
     }
-    let free = free_at(&*register);
-    if n <= free {
-        return Refusal::alone(31);
-    }
+    let free = free_at(&*register).ok_or(Refusal::alone(31))?;
     put_slot(&mut *register, free, plan, 0, 0);
-    Refusal::alone(0)
-}
-
-// Do two runs of bytes agree, in length too?
-fn is_same(a: &[u8], b: &[u8]) -> bool
-    ensures { result ≡ same a.now b.now }
-{
-    if a.len() != b.len() {
-        return false;
-    }
-    let mut agree = true;
-    for i in 0..a.len() {
-        agree = agree & (a[i] == b[i]);
-    }
-    agree
+    Ok(())
 }
 
 // Signs the plan that is held, where it is byte for byte the one that the signer has seen.
-pub fn sign(register: &mut [u8], signer: u32, plan: &[u8]) -> Refusal
-    ensures { Called register.old (sign signer plan.now) (nothing_but result) register.new }
+pub fn sign(register: &mut [u8], signer: u32, plan: &[u8]) -> Result<(), Refusal>
+    ensures { Called register.old (sign signer plan.now) nothing result register.new }
 {
-    if !is_sound(&*register) {
-        return Refusal::alone(30);
-    }
+    check_sound(&*register)?;
     if signer == 0 {
-        return Refusal::alone(35);
+        return Err(Refusal::alone(35));
     }
-    let answer = verdict(plan);
-    let Answer::Accepted(_) = answer else {
-        return refusal_of(answer);
-    };
-    let held = held_at(&*register, plan_number_of(plan));
-    if slots_of(&*register) <= held {
-        return Refusal::alone(33);
+    verdict(plan)?;
+    let held = held_in(&*register, plan_number_of(plan))?;
+    let slot = &slots_of(&*register)[held];
+    if plan != plan_in(slot) {
+        return Err(Refusal::alone(34));
     }
-    let slot = slot_at(&*register, held);
-    if !is_same(plan, plan_in(slot)) {
-        return Refusal::alone(34);
+    if has_two(slot) {
+        return Err(Refusal::alone(37));
     }
-    let old = holding_in(slot);
-    if old.second != 0 {
-        return Refusal::alone(37);
+    let first = first_signer(slot);
+    if first == signer {
+        return Err(Refusal::alone(36));
     }
-    if old.first == signer {
-        return Refusal::alone(36);
-    }
-    if old.first == 0 {
+    if first == 0 {
         put_slot(&mut *register, held, plan, signer, 0);
-        return Refusal::alone(0);
+    } else {
+        put_slot(&mut *register, held, plan, first, signer);
     }
-    put_slot(&mut *register, held, plan, old.first, signer);
-    Refusal::alone(0)
+    Ok(())
 }

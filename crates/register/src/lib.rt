@@ -9,19 +9,10 @@ mod sound;
 
 pub use ask::{release, state_of};
 pub use change::{clear, drop_plan, sign, submit};
-use refusal::Refusal;
 
-// What release gives: the released plan's length in bytes, 0 where it is refused.
-#[derive(Clone, Copy)]
-pub struct Released {
-    pub refusal: Refusal,
-    pub length: u32,
-}
-
-// What state gives: the held plan's revision and how many have signed it, zeros where it is refused.
-#[derive(Clone, Copy)]
+// What state gives: the held plan's revision and how many have signed it.
+#[derive(Clone, Copy, PartialEq, Eq, Debug)]
 pub struct State {
-    pub refusal: Refusal,
     pub revision: u32,
     pub signers: u8,
 }

@@ -1,15 +1,11 @@
 -- What a C call returns, and what its lent buffer holds afterwards.
-use Rattle.std.specs.Prelude.{ℕ, ◌+◌, Bool, cond, List, [], ◌∷◌, ltb, length, get_or}
+use Rattle.std.specs.Prelude.{ℕ, ◌+◌, Bool, cond, List, [], ◌∷◌, ltb, length, get_or, Err, Ok}
 use Rattle.block.specs.Bytes.{bytes_of, put}
-use Rattle.refusal.specs.Refusals.{alone, code_of, done_code}
-use Rattle.verdict.specs.declared.Answer.{Answer}
-use Rattle.verdict.specs.declared.Answer.TheVariants.{Accepted, Broken}
-use Rattle.supply.specs.declared.DateSet.{DateSet}
-use Rattle.supply.specs.declared.DateSet.TheVariants as set
-use Rattle.supply.specs.declared.Supply.{Supply}
-use Rattle.supply.specs.declared.Supply.TheVariants as supply
-use Rattle.split.specs.declared.Parted.{Parted}
-use Rattle.split.specs.declared.Parted.TheVariants as split
+use Rattle.refusal.specs.Refusals.{alone, code_of}
+use Rattle.verdict.specs.Answers.{Answer}
+use Rattle.supply.specs.Answers.{DateSet}
+use Rattle.supply.specs.Answers.{Supply}
+use Rattle.split.specs.Answers.{Parted}
 use Rattle.showing.specs.declared.Stretch.{Stretch}
 use Rattle.register.specs.Steps.{Answered, is_done}
 
@@ -30,31 +26,19 @@ abbrev pub code26 : ℕ
 code26 = code_of (alone 26)
 
 -- "Unless refused, days, last day, rest and reason go into a lent buffer as four 64-bit numbers, bytes behind untouched"
-abbrev pub supply_code : Supply → ℕ
-supply_code (supply.Lasts x) = done_code
-supply_code (supply.Refused r) = code_of r
-
 abbrev pub supply_out : List ℕ → Supply → List ℕ
-supply_out out (supply.Lasts x) = written out 0 (x.days ∷ x.last ∷ x.rest ∷ x.reason ∷ [])
-supply_out out (supply.Refused r) = out
+supply_out out (Ok x) = written out 0 (x.days ∷ x.last ∷ x.rest ∷ x.reason ∷ [])
+supply_out out (Err r) = out
 
 -- W1, "A single call gives the set": end, minimum, maximum, date 3 and date 4, the open mark where a date is absent
-abbrev pub dates_code : DateSet → ℕ
-dates_code (set.Given x) = done_code
-dates_code (set.Refused r) = code_of r
-
 abbrev pub dates_out : List ℕ → DateSet → List ℕ
-dates_out out (set.Given x) = written out 0 (x.end ∷ x.minimum ∷ x.maximum ∷ x.third ∷ x.fourth ∷ [])
-dates_out out (set.Refused r) = out
+dates_out out (Ok x) = written out 0 (x.end ∷ x.minimum ∷ x.maximum ∷ x.third ∷ x.fourth ∷ [])
+dates_out out (Err r) = out
 
 -- split: "The answer is both parts' lengths in bytes"
-abbrev pub split_code : Parted → ℕ
-split_code (split.Parts n) = done_code
-split_code (split.Refused r) = code_of r
-
 abbrev pub split_out : List ℕ → Parted → List ℕ
-split_out out (split.Parts n) = written out 0 (n.fixed ∷ n.need ∷ [])
-split_out out (split.Refused r) = out
+split_out out (Ok n) = written out 0 (n.fixed ∷ n.need ∷ [])
+split_out out (Err r) = out
 
 -- showing a day: where the stretch begins in the wanted part, and how many bytes it has
 abbrev pub stretch_out : List ℕ → Stretch → List ℕ
@@ -70,6 +54,6 @@ state_out out x = cond (is_done x.refusal) (written out 0 (x.revision ∷ x.sign
 
 -- a day's four sums likewise: unmarked low, unmarked upper, marked low, marked upper
 abbrev pub sums_out : List ℕ → Answer → List (List ℕ) → List ℕ
-sums_out out (Accepted n) s =
+sums_out out (Ok n) s =
     written out 0 (get_or (get_or s 0 []) 0 0 ∷ get_or (get_or s 0 []) 1 0 ∷ get_or (get_or s 1 []) 0 0 ∷ get_or (get_or s 1 []) 1 0 ∷ [])
-sums_out out (Broken r) s = out
+sums_out out (Err r) s = out

@@ -1,26 +1,26 @@
 // The calls of the C approval screen, as a library. The crate screen_c gives them to C, under the same names.
 #![tactic(auto)]
 
-ghost use Rattle.std.specs.Prelude.{◌≡◌, true, false, cond, [], ◌∷◌};
-ghost use Rattle.verdict.specs.Verdict.{verdict_of, code_of_answer};
+ghost use Rattle.std.specs.Prelude.{◌≡◌, true, false, cond, ◌≤◌, length};
+ghost use Rattle.verdict.specs.Verdict.{verdict_of};
 ghost use Rattle.doses.specs.Doses.{day_sums};
 ghost use Rattle.supply.specs.Dates.{packed_dates_of};
 ghost use Rattle.supply.specs.Supply.{packed_supply_of};
-ghost use Rattle.refusal.specs.Refusals.{code_of, done_code};
+ghost use Rattle.refusal.specs.Refusals.{code_of, done_code, code_in};
 ghost use Rattle.split.specs.Parts.{part_bytes};
 ghost use Rattle.split.specs.Split.{split_of, left_by};
 ghost use Rattle.showing.specs.Showing.{stretch_of};
 ghost use Rattle.register.specs.Steps.{Call.clear, Call.submit, Call.sign, Call.release, Call.drop as dropped, Call.state, answered, after, room_after};
-ghost use Rattle.screen.specs.Calls.{version, written, too_short, code26, supply_code, supply_out, dates_code, dates_out, split_code, split_out, stretch_out, released_out, state_out, sums_out};
+ghost use Rattle.screen.specs.Calls.{version, written, too_short, code26, supply_out, dates_out, split_out, stretch_out, released_out, state_out, sums_out};
 
 use block::put_long;
 use doses::day_sums;
-use refusal::{Refusal, done};
+use refusal::{Refusal, code_in, done};
 use register::{clear, drop_plan, release, sign, state_of, submit};
 use showing::stretch_of;
-use split::{Parted, split};
-use supply::{DateSet, Supply, dates_packed, supply_packed};
-use verdict::{Answer, refusal_of, verdict};
+use split::split;
+use supply::{dates_packed, supply_packed};
+use verdict::verdict;
 
 // The version of the header that declares these calls, so that a caller sees whether this library is that header's.
 pub fn chivetassel_version() -> u32
@@ -31,30 +31,25 @@ pub fn chivetassel_version() -> u32
 
 // The verdict on a plan: the number plus 256 times the place.
 pub fn chivetassel_verdict(plan: &[u8]) -> u32
-    ensures { result ≡ code_of_answer (verdict_of plan.now) }
+    ensures { result ≡ code_in (verdict_of plan.now) }
 {
-    refusal_of(verdict(plan)).code()
+    code_in(verdict(plan))
 }
 
-// Four numbers of 64 bits, least byte first.
-fn put_four(out: &mut [u8], a: u64, b: u64, c: u64, d: u64)
-    ensures { out.new ≡ written out.old 0 (a ∷ b ∷ c ∷ d ∷ []) }
+// Numbers of 64 bits, least byte first, one behind another.
+fn put_numbers(out: &mut [u8], numbers: &[u64])
+    requires { length numbers.now ≤ 5 }
+    ensures { out.new ≡ written out.old 0 numbers.now }
 {
-    put_long(&mut *out, 0, a);
-    put_long(&mut *out, 8, b);
-    put_long(&mut *out, 16, c);
-    put_long(&mut *out, 24, d);
-}
-
-// Two of them.
-fn put_two(out: &mut [u8], a: u64, b: u64)
-    ensures { out.new ≡ written out.old 0 (a ∷ b ∷ []) }
-{
-    put_long(&mut *out, 0, a);
-    put_long(&mut *out, 8, b);
+    let mut at = 0;
+    for x in numbers {
+        put_long(&mut *out, at, *x);
+        at += 8;
+    }
 }
 
 // How far a pack lasts.
+// Kept: each call with a buffer asks for its room by two lines, since `let Some(room) = out.first_chunk_mut::<32>() else { .. }` is longer.
 pub fn chivetassel_supply(
     plan: &[u8],
     start: u32,
@@ -63,56 +58,48 @@ pub fn chivetassel_supply(
     pauses: &[u8],
     out: &mut [u8],
 ) -> u32
-    ensures value { result ≡ cond (too_short 32 out.old) code26 (supply_code (packed_supply_of plan.now start pack choice pauses.now)) }
+    ensures value { result ≡ cond (too_short 32 out.old) code26 (code_in (packed_supply_of plan.now start pack choice pauses.now)) }
     ensures out_after { out.new ≡ cond (too_short 32 out.old) out.old (supply_out out.old (packed_supply_of plan.now start pack choice pauses.now)) }
 {
     if out.len() < 32 {
         return Refusal::alone(26).code();
     }
-    match supply_packed(plan, start, pack, choice, pauses) {
-        Supply::Refused(r) => r.code(),
-        Supply::Lasts(x) => {
-            put_four(out, x.days as u64, x.last as u64, x.rest, x.reason as u64);
-            done()
-        }
+    let answer = supply_packed(plan, start, pack, choice, pauses);
+    if let Ok(x) = answer {
+        put_numbers(
+            out,
+            &[
+                u64::from(x.days),
+                u64::from(x.last),
+                x.rest,
+                u64::from(x.reason),
+            ],
+        );
     }
-}
-
-// Five of them.
-fn put_five(out: &mut [u8], a: u64, b: u64, c: u64, d: u64, e: u64)
-    ensures { out.new ≡ written out.old 0 (a ∷ b ∷ c ∷ d ∷ e ∷ []) }
-{
-    put_four(&mut *out, a, b, c, d);
-    put_long(&mut *out, 32, e);
+    code_in(answer)
 }
 
 // The dates that the counter wants.
 pub fn chivetassel_dates(plan: &[u8], start: u32, pack: u64, pauses: &[u8], out: &mut [u8]) -> u32
-    ensures value { result ≡ cond (too_short 40 out.old) code26 (dates_code (packed_dates_of plan.now start pack pauses.now)) }
+    ensures value { result ≡ cond (too_short 40 out.old) code26 (code_in (packed_dates_of plan.now start pack pauses.now)) }
     ensures out_after { out.new ≡ cond (too_short 40 out.old) out.old (dates_out out.old (packed_dates_of plan.now start pack pauses.now)) }
 {
     if out.len() < 40 {
         return Refusal::alone(26).code();
     }
-    match dates_packed(plan, start, pack, pauses) {
-        DateSet::Refused(r) => r.code(),
-        DateSet::Given(x) => {
-            put_five(
-                out,
-                x.end as u64,
-                x.minimum as u64,
-                x.maximum as u64,
-                x.third as u64,
-                x.fourth as u64,
-            );
-            done()
-        }
+    let answer = dates_packed(plan, start, pack, pauses);
+    if let Ok(x) = answer {
+        put_numbers(
+            out,
+            &[x.end, x.minimum, x.maximum, x.third, x.fourth].map(u64::from),
+        );
     }
+    code_in(answer)
 }
 
 // A plan into its two parts.
 pub fn chivetassel_split(plan: &[u8], fixed: &mut [u8], need: &mut [u8], out: &mut [u8]) -> u32
-    ensures value { result ≡ cond (too_short 16 out.old) code26 (split_code (split_of plan.now fixed.old need.old)) }
+    ensures value { result ≡ cond (too_short 16 out.old) code26 (code_in (split_of plan.now fixed.old need.old)) }
     ensures fixed_after { fixed.new ≡ cond (too_short 16 out.old) fixed.old (left_by (split_of plan.now fixed.old need.old) (part_bytes false plan.now) fixed.old) }
     ensures need_after { need.new ≡ cond (too_short 16 out.old) need.old (left_by (split_of plan.now fixed.old need.old) (part_bytes true plan.now) need.old) }
     ensures out_after { out.new ≡ cond (too_short 16 out.old) out.old (split_out out.old (split_of plan.now fixed.old need.old)) }
@@ -120,13 +107,11 @@ pub fn chivetassel_split(plan: &[u8], fixed: &mut [u8], need: &mut [u8], out: &m
     if out.len() < 16 {
         return Refusal::alone(26).code();
     }
-    match split(plan, fixed, need) {
-        Parted::Refused(r) => r.code(),
-        Parted::Parts(n) => {
-            put_two(out, n.fixed as u64, n.need as u64);
-            done()
-        }
+    let answer = split(plan, fixed, need);
+    if let Ok(n) = answer {
+        put_numbers(out, &[u64::from(n.fixed), u64::from(n.need)]);
     }
+    code_in(answer)
 }
 
 // The blocks of a part's first period that has the day, by their place in the wanted part.
@@ -138,25 +123,24 @@ pub fn chivetassel_show_day(fixed: &[u8], need: &[u8], list: u32, day: u32, out:
         return Refusal::alone(26).code();
     }
     let s = stretch_of(fixed, need, list, day);
-    put_two(out, s.at as u64, s.length as u64);
+    put_numbers(out, &[u64::from(s.at), u64::from(s.length)]);
     done()
 }
 
 // A day's four sums.
 pub fn chivetassel_day_sums(plan: &[u8], day: u32, out: &mut [u8]) -> u32
-    ensures value { result ≡ cond (too_short 32 out.old) code26 (code_of_answer (verdict_of plan.now)) }
+    ensures value { result ≡ cond (too_short 32 out.old) code26 (code_in (verdict_of plan.now)) }
     ensures out_after { out.new ≡ cond (too_short 32 out.old) out.old (sums_out out.old (verdict_of plan.now) (day_sums plan.now day)) }
 {
     if out.len() < 32 {
         return Refusal::alone(26).code();
     }
     let answer = verdict(plan);
-    let Answer::Accepted(_) = answer else {
-        return refusal_of(answer).code();
-    };
-    let sums = day_sums(plan, day);
-    put_four(out, sums[0][0], sums[0][1], sums[1][0], sums[1][1]);
-    done()
+    if answer.is_ok() {
+        let sums = day_sums(plan, day);
+        put_numbers(out, &[sums[0][0], sums[0][1], sums[1][0], sums[1][1]]);
+    }
+    code_in(answer)
 }
 
 // Frees every slot of a register.
@@ -164,7 +148,7 @@ pub fn chivetassel_clear(register: &mut [u8]) -> u32
     ensures value { result ≡ code_of (answered register.old clear).refusal }
     ensures register_after { register.new ≡ after register.old clear }
 {
-    clear(register).code()
+    code_in(clear(register))
 }
 
 // Takes a plan into a register.
@@ -172,7 +156,7 @@ pub fn chivetassel_submit(register: &mut [u8], plan: &[u8]) -> u32
     ensures value { result ≡ code_of (answered register.old (submit plan.now)).refusal }
     ensures register_after { register.new ≡ after register.old (submit plan.now) }
 {
-    submit(register, plan).code()
+    code_in(submit(register, plan))
 }
 
 // Signs a plan that is held.
@@ -180,7 +164,7 @@ pub fn chivetassel_sign(register: &mut [u8], signer: u32, plan: &[u8]) -> u32
     ensures value { result ≡ code_of (answered register.old (sign signer plan.now)).refusal }
     ensures register_after { register.new ≡ after register.old (sign signer plan.now) }
 {
-    sign(register, signer, plan).code()
+    code_in(sign(register, signer, plan))
 }
 
 // Gives a plan that two have signed.
@@ -192,12 +176,11 @@ pub fn chivetassel_release(register: &[u8], number: u32, room: &mut [u8], out: &
     if out.len() < 8 {
         return Refusal::alone(26).code();
     }
-    let x = release(register, number, room);
-    if x.refusal.number != 0 {
-        return x.refusal.code();
+    let answer = release(register, number, room);
+    if let Ok(length) = answer {
+        put_numbers(out, &[u64::from(length)]);
     }
-    put_long(out, 0, x.length as u64);
-    x.refusal.code()
+    code_in(answer)
 }
 
 // Drops a plan.
@@ -205,7 +188,7 @@ pub fn chivetassel_drop(register: &mut [u8], number: u32) -> u32
     ensures value { result ≡ code_of (answered register.old (dropped number)).refusal }
     ensures register_after { register.new ≡ after register.old (dropped number) }
 {
-    drop_plan(register, number).code()
+    code_in(drop_plan(register, number))
 }
 
 // A held plan's revision, and how many have signed it.
@@ -216,10 +199,9 @@ pub fn chivetassel_state(register: &[u8], number: u32, out: &mut [u8]) -> u32
     if out.len() < 16 {
         return Refusal::alone(26).code();
     }
-    let x = state_of(register, number);
-    if x.refusal.number != 0 {
-        return x.refusal.code();
+    let answer = state_of(register, number);
+    if let Ok(x) = answer {
+        put_numbers(out, &[u64::from(x.revision), u64::from(x.signers)]);
     }
-    put_two(out, x.revision as u64, x.signers as u64);
-    x.refusal.code()
+    code_in(answer)
 }

@@ -3,16 +3,16 @@
 #![tactic(auto)]
 
 ghost use Rattle.std.specs.Prelude.{◌≡◌, true, false, cond};
-ghost use Rattle.verdict.specs.Verdict.{verdict_of, code_of_answer};
+ghost use Rattle.verdict.specs.Verdict.{verdict_of};
 ghost use Rattle.doses.specs.Doses.{day_sums};
 ghost use Rattle.supply.specs.Dates.{packed_dates_of};
 ghost use Rattle.supply.specs.Supply.{packed_supply_of};
-ghost use Rattle.refusal.specs.Refusals.{code_of, done_code};
+ghost use Rattle.refusal.specs.Refusals.{code_of, done_code, code_in};
 ghost use Rattle.split.specs.Parts.{part_bytes};
 ghost use Rattle.split.specs.Split.{split_of, left_by};
 ghost use Rattle.showing.specs.Showing.{stretch_of};
 ghost use Rattle.register.specs.Steps.{Call.clear, Call.submit, Call.sign, Call.release, Call.drop as dropped, Call.state, answered, after, room_after};
-ghost use Rattle.screen.specs.Calls.{version, too_short, code26, supply_code, supply_out, dates_code, dates_out, split_code, split_out, stretch_out, released_out, state_out, sums_out};
+ghost use Rattle.screen.specs.Calls.{version, too_short, code26, supply_out, dates_out, split_out, stretch_out, released_out, state_out, sums_out};
 
 // The version of the header that declares these calls, so that a caller sees whether this library is that header's.
 #[unsafe(no_mangle)]
@@ -25,7 +25,7 @@ pub extern "C" fn chivetassel_version() -> u32
 // The verdict on a plan: the number plus 256 times the place.
 #[unsafe(no_mangle)]
 pub extern "C" fn chivetassel_verdict(plan: &[u8]) -> u32
-    ensures { result ≡ code_of_answer (verdict_of plan.now) }
+    ensures { result ≡ code_in (verdict_of plan.now) }
 {
     screen::chivetassel_verdict(plan)
 }
@@ -40,7 +40,7 @@ pub extern "C" fn chivetassel_supply(
     pauses: &[u8],
     out: &mut [u8],
 ) -> u32
-    ensures value { result ≡ cond (too_short 32 out.old) code26 (supply_code (packed_supply_of plan.now start pack choice pauses.now)) }
+    ensures value { result ≡ cond (too_short 32 out.old) code26 (code_in (packed_supply_of plan.now start pack choice pauses.now)) }
     ensures out_after { out.new ≡ cond (too_short 32 out.old) out.old (supply_out out.old (packed_supply_of plan.now start pack choice pauses.now)) }
 {
     screen::chivetassel_supply(plan, start, pack, choice, pauses, out)
@@ -55,7 +55,7 @@ pub extern "C" fn chivetassel_dates(
     pauses: &[u8],
     out: &mut [u8],
 ) -> u32
-    ensures value { result ≡ cond (too_short 40 out.old) code26 (dates_code (packed_dates_of plan.now start pack pauses.now)) }
+    ensures value { result ≡ cond (too_short 40 out.old) code26 (code_in (packed_dates_of plan.now start pack pauses.now)) }
     ensures out_after { out.new ≡ cond (too_short 40 out.old) out.old (dates_out out.old (packed_dates_of plan.now start pack pauses.now)) }
 {
     screen::chivetassel_dates(plan, start, pack, pauses, out)
@@ -69,7 +69,7 @@ pub extern "C" fn chivetassel_split(
     need: &mut [u8],
     out: &mut [u8],
 ) -> u32
-    ensures value { result ≡ cond (too_short 16 out.old) code26 (split_code (split_of plan.now fixed.old need.old)) }
+    ensures value { result ≡ cond (too_short 16 out.old) code26 (code_in (split_of plan.now fixed.old need.old)) }
     ensures fixed_after { fixed.new ≡ cond (too_short 16 out.old) fixed.old (left_by (split_of plan.now fixed.old need.old) (part_bytes false plan.now) fixed.old) }
     ensures need_after { need.new ≡ cond (too_short 16 out.old) need.old (left_by (split_of plan.now fixed.old need.old) (part_bytes true plan.now) need.old) }
     ensures out_after { out.new ≡ cond (too_short 16 out.old) out.old (split_out out.old (split_of plan.now fixed.old need.old)) }
@@ -95,7 +95,7 @@ pub extern "C" fn chivetassel_show_day(
 // A day's four sums.
 #[unsafe(no_mangle)]
 pub extern "C" fn chivetassel_day_sums(plan: &[u8], day: u32, out: &mut [u8]) -> u32
-    ensures value { result ≡ cond (too_short 32 out.old) code26 (code_of_answer (verdict_of plan.now)) }
+    ensures value { result ≡ cond (too_short 32 out.old) code26 (code_in (verdict_of plan.now)) }
     ensures out_after { out.new ≡ cond (too_short 32 out.old) out.old (sums_out out.old (verdict_of plan.now) (day_sums plan.now day)) }
 {
     screen::chivetassel_day_sums(plan, day, out)

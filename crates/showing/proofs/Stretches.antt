@@ -1,4 +1,5 @@
 -- Where the stretch lies that shows a day: inside the part, as whole blocks. Assumes nothing.
+use Rattle.std.specs.Prelude.{Err, Ok, is_err}
 use Prim.Native.Nat.{ℕ, ◌+◌, ◌*◌, ◌≤◌, ◌<◌}
 use mathlib.Core.Bool.{true, false, not}
 use mathlib.Core.List.{List, []}
@@ -16,22 +17,30 @@ use Rattle.plan.specs.Fields.{first_of, last_of}
 use Rattle.plan.specs.Periods.{blocks_of, block_at, is_period, is_continuation, more_of}
 use Rattle.form.specs.Form.{form_of}
 use Rattle.form.specs.Code.Whole.{Whole}
-use Rattle.form.specs.declared.Form.{Form}
-use Rattle.form.specs.declared.Form.TheVariants.{Right, Broken}
+use Rattle.form.specs.Answers.{Form}
 use Rattle.form.proofs.Formed.{formed, head_no_period, dated}
 use Rattle.form.proofs.Laws.{whole, short}
 use Rattle.form.proofs.Ranged.{goes, inside}
 use Rattle.doses.specs.Doses.{covers}
 use Rattle.showing.specs.Showing.{part_limit, nothing, first_covering, blocks_shown, shown_in}
 
-form_cases : (f : Form) → (f ≡ Right) ⊎ ((r : Refusal) × (f ≡ Broken r))
-form_cases Right = inl refl
-form_cases (Broken r) = inr (r, refl)
+form_cases : (f : Form) → (f ≡ Ok tt) ⊎ ((r : Refusal) × (f ≡ Err r))
+form_cases (Ok tt) = inl refl
+form_cases (Err r) = inr (r, refl)
+
+-- what `is_err` says of it
+pub no_err : (f : Form) → is_err f ≡ false → f ≡ Ok tt
+no_err (Ok tt) e = refl
+no_err (Err r) e = absurd (true_not_false refl e)
+
+pub some_err : (f : Form) → is_err f ≡ true → (r : Refusal) × (f ≡ Err r)
+some_err (Ok tt) e = absurd (true_not_false e refl)
+some_err (Err r) e = (r, refl)
 
 -- the stretch is the n blocks from block b: a period that has the day, the first such, then its continuations, and the block
 -- behind them is none
 pub record IsShown (part : List ℕ) (day b n : ℕ) : Type 0 where
-  pub right : form_of part_limit part ≡ Right
+  pub right : form_of part_limit part ≡ Ok tt
   pub begins : (shown_in part day).at ≡ b * 512
   pub long : (shown_in part day).length ≡ n * 512
   pub there : b + n ≤ blocks_of part
@@ -42,7 +51,7 @@ pub record IsShown (part : List ℕ) (day b n : ℕ) : Type 0 where
   pub behind : is_continuation part (b + n) ≡ false
 
 -- a part that breaks none of rules 1 to 4
-module _ (part : List ℕ) (e : form_of part_limit part ≡ Right) where
+module _ (part : List ℕ) (e : form_of part_limit part ≡ Ok tt) where
   pub whole_right : Whole part
   whole_right = whole part_limit part (omega arith) (formed part_limit part e).long
 
@@ -51,11 +60,11 @@ module _ (part : List ℕ) (e : form_of part_limit part ≡ Right) where
 
 module _ (part : List ℕ) (day : ℕ) where
   -- "An empty stretch comes .. if the wanted part breaks rules 1 to 4"
-  pub shown_broken : {r : Refusal} → form_of part_limit part ≡ Broken r → shown_in part day ≡ nothing
+  pub shown_broken : {r : Refusal} → form_of part_limit part ≡ Err r → shown_in part day ≡ nothing
   unfolding shown_in
   shown_broken {r} e = rw e
 
-  module _ (e : form_of part_limit part ≡ Right) where
+  module _ (e : form_of part_limit part ≡ Ok tt) where
     pub shown_first : first_covering part day < blocks_of part → shown_in part day ≡ blocks_shown part (first_covering part day)
     unfolding shown_in
     shown_first l = rw (e, lt-ltb _ _ l)
@@ -127,7 +136,7 @@ module _ (part : List ℕ) (day : ℕ) where
   pub shown_past : 73048 < day → shown_in part day ≡ nothing
   shown_past past =
       ⊎_elim
-      (λ (e : form_of part_limit part ≡ Right).
+      (λ (e : form_of part_limit part ≡ Ok tt).
       shown_uncovered e
       (λ b l.
       not_true_false (covers part day b)
@@ -143,7 +152,7 @@ module _ (part : List ℕ) (day : ℕ) where
   pub shown_cases : (shown_in part day ≡ nothing) ⊎ ((b : ℕ) × (n : ℕ) × IsShown part day b n)
   shown_cases =
       ⊎_elim
-      (λ (e : form_of part_limit part ≡ Right).
+      (λ (e : form_of part_limit part ≡ Ok tt).
       ⊎_elim
       (λ (h : blocks_of part ≤ first_covering part day). inl (shown_none e h))
       (λ h. inr (first_covering part day, 1 + more_of part (first_covering part day), is_shown e h))

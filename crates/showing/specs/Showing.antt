@@ -1,8 +1,7 @@
 -- "Showing a day": which of a part's own bytes are shown.
-use Rattle.std.specs.Prelude.{ℕ, ◌+◌, ◌*◌, cond, List, [], eqb, ltb, take, drop}
+use Rattle.std.specs.Prelude.{ℕ, ◌+◌, ◌*◌, cond, List, [], eqb, ltb, take, drop, Err, Ok}
 use Rattle.below.specs.Below.{first_below}
-use Rattle.form.specs.declared.Form.{Form}
-use Rattle.form.specs.declared.Form.TheVariants.{Right, Broken}
+use Rattle.form.specs.Answers.{Form}
 use Rattle.form.specs.Form.{form_of}
 use Rattle.plan.specs.Periods.{blocks_of, more_of}
 use Rattle.doses.specs.Doses.{covers}
@@ -25,8 +24,8 @@ blocks_shown part b = record { at = b * 512; length = (1 + more_of part b) * 512
 
 -- "An empty stretch comes .. if the wanted part breaks rules 1 to 4 .., or if no period covers the day."
 abbrev pub shown_by : Form → List ℕ → ℕ → Stretch
-shown_by (Broken r) part day = nothing
-shown_by Right part day =
+shown_by (Err r) part day = nothing
+shown_by (Ok tt) part day =
     let b = first_covering part day in
     cond (ltb b (blocks_of part)) (blocks_shown part b) nothing
 

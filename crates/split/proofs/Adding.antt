@@ -1,29 +1,27 @@
 -- What was added by one call and then by another. Assumes nothing.
 use Prim.Native.Nat.{ℕ, ◌+◌, ◌≤◌}
-use mathlib.Core.Bool.{Bool, true, false, ◌&&◌, ◌||◌}
+use mathlib.Core.Bool.{Bool, ◌&&◌}
 use mathlib.Core.List.{List, [], ◌∷◌, ◌++◌, append_assoc, append-nil}
 use mathlib.Core.Path.{◌≡◌, refl, ◌∙◌}
 use native.Mathlib.Omega.{arith}
-use lib.Dec.{eqb}
 use lib.ListN.{length, length-append}
 use Rattle.below.proofs.Lists.{over_append}
 use Rattle.plan.specs.declared.Dose.{Dose}
-use Rattle.plan.specs.Periods.{is_period, mixed, class_of}
+use Rattle.plan.specs.Periods.{is_period, class_of}
 use Rattle.layout.specs.Layout.{Written, body_of, blocks_for}
 use Rattle.plan.specs.declared.Header.{Header}
-use Rattle.verdict.specs.Coverage.{is_member}
+use Rattle.verdict.specs.Coverage.{in_group, is_member}
 use Rattle.writer.specs.declared.Place.{Place}
 use Rattle.writer.specs.Steps.{period_added, period_place, dose_added, dose_place}
 use Rattle.writer.proofs.Holding.{holds_period, holds_dose, last_doses_lem}
 use Rattle.writer.proofs.Laying.{length_body_last, blocks_are, one_dose_more, without_room}
-use Rattle.split.specs.Parts.{is_dosed_in}
-use Rattle.split.specs.Code.Adding.{own_class, HasRoom, Adds, with_doses, AddsDoses}
+use Rattle.split.specs.Parts.{group_of, is_dosed_in}
+use Rattle.split.specs.Code.Adding.{HasRoom, Adds, with_doses, AddsDoses}
 
 -- a part's dosed periods, by their class
-pub dosed_is : (marked : Bool) (p : List ℕ) (b : ℕ) → is_dosed_in marked p b ≡ (is_period p b && (eqb (class_of p b) (own_class marked) || eqb (class_of p b) mixed))
+pub dosed_is : (marked : Bool) (p : List ℕ) (b : ℕ) → is_dosed_in marked p b ≡ (is_period p b && in_group (group_of marked) (class_of p b))
 unfolding is_member
-dosed_is true p b = refl
-dosed_is false p b = refl
+dosed_is marked p b = refl
 
 -- room for all is room for those ahead
 body_append : (ws xs : List Written) → length (body_of (ws ++ xs)) ≡ length (body_of ws) + length (body_of xs)

@@ -1,16 +1,13 @@
 -- The part's doses of a block, one by one and as they lie in a period, and the loop that copies them. Assumes nothing.
 use Prim.Native.Nat.{ℕ, zero, suc, ◌+◌, ◌-◌, ◌*◌, ◌≤◌, ◌<◌, min}
-use mathlib.Core.Bool.{Bool, true, false, cond, not, ◌&&◌}
+use mathlib.Core.Bool.{Bool, true, false, cond}
 use mathlib.Core.List.{List, [], ◌∷◌, ◌++◌, append_assoc, append-nil}
 use mathlib.Core.Path.{◌≡◌, sym, ◌∙◌}
 use native.Mathlib.Omega.{arith}
-use lib.Dec.{eqb, leb}
 use lib.ListN.{length, take, drop, length-append, length-drop}
 use lib.Seq.{length-take-le}
-use borrow.Author.Tests.{eqb-true, leb-true, not-true, not-false}
 use borrow.Rule.Slice.PartMut.{put_mid}
 use Rattle.below.proofs.Lists.{list_more, list_same, keep_append}
-use Rattle.below.proofs.Tests.{and_both}
 use Rattle.below.specs.Lists.{list_below, keep}
 use Rattle.block.proofs.Put.{part_put}
 use Rattle.block.proofs.Puts.{put_all}
@@ -82,18 +79,15 @@ module _ (out : List ℕ) (block m : ℕ) (r : List ℕ) (i : ℕ) (marked : Boo
   abbrev kept : List Dose
   kept = keep (is_of_part marked) (dose_of (record_at r i) ∷ [])
 
-  pub not_kept : not (is_of_part marked (dose_of (record_at r i))) ≡ true → (out ≡ records_put out block m kept) × (m ≡ m + length kept)
+  pub not_kept : is_of_part marked (dose_of (record_at r i)) ≡ false → (out ≡ records_put out block m kept) × (m ≡ m + length kept)
   unfolding keep
-  not_kept e =
-      let f : is_of_part marked (dose_of (record_at r i)) ≡ false = not-true _ e in
-      rw f (sym (records_none out block m h (omega arith)), omega arith)
+  not_kept f = rw f (sym (records_none out block m h (omega arith)), omega arith)
 
-  pub is_kept : not (is_of_part marked (dose_of (record_at r i))) ≡ false → {at : ℕ} → at ≡ record_start m → (s : List ℕ) →
+  pub is_kept : is_of_part marked (dose_of (record_at r i)) ≡ true → {at : ℕ} → at ≡ record_start m → (s : List ℕ) →
       s ≡ put (take (block + at + 24 - (block + at)) (drop (block + at) out)) 0 (dose_bytes (dose_of (record_at r i))) →
       (put_mid (block + at) (block + at + 24 - (block + at)) out s ≡ records_put out block m kept) × (m + 1 ≡ m + length kept)
   unfolding keep
-  is_kept e {at} z s g =
-      let f : is_of_part marked (dose_of (record_at r i)) ≡ true = not-false _ e in
+  is_kept f {at} z s g =
       let d = dose_of (record_at r i) in
       let a = block + at in
       let q = take (a + 24 - a) (drop a out) in
@@ -118,12 +112,3 @@ module _ (first : List ℕ) (block held : ℕ) (marked : Bool) (r : List ℕ) (f
       let long : length (xs ++ ys) ≡ length xs + length ys = length-append xs ys in
       let joined = records_more first block held xs ys h (omega arith) in
       rw (kept_more marked r from i a) (omega arith, omega arith, g ∙ rw (f, e) joined)
-
--- what has room in the last block
-pub room_in : (b d i n o r : ℕ) → ((((eqb r 512 && leb 2 b) && leb (b * 512) o) && leb n 20) && leb (d + (n - i)) 20) ≡ true → (2 ≤ b) × (b * 512 ≤ o) × (n ≤ 20) × (d + (n - i) ≤ 20) × (r ≡ 512)
-room_in b d i n o r e =
-    let w = and_both (((eqb r 512 && leb 2 b) && leb (b * 512) o) && leb n 20) _ e in
-    let x = and_both ((eqb r 512 && leb 2 b) && leb (b * 512) o) _ w.0 in
-    let y = and_both (eqb r 512 && leb 2 b) _ x.0 in
-    let z = and_both (eqb r 512) _ y.0 in
-    (leb-true _ _ z.1, leb-true _ _ y.1, leb-true _ _ x.1, leb-true _ _ w.1, eqb-true _ _ z.0)

@@ -1,12 +1,12 @@
 -- Demand 3 for split: on each day the doses of a part are the plan's doses of its mark, in their order. Assumes nothing.
 use Prim.Native.Nat.{ℕ, ◌≤◌}
-use mathlib.Core.Bool.{Bool, true, false, cond, not, ◌&&◌, ◌||◌}
+use mathlib.Core.Bool.{Bool, true, false, cond, not, ◌&&◌}
 use mathlib.Core.List.{List, [], ◌∷◌, append-nil}
 use mathlib.Core.Logic.{⊎_elim}
 use mathlib.Core.Path.{◌≡◌, refl, sym, ap, ◌∙◌}
 use native.Mathlib.Nat.{min-eq_left}
 use native.Mathlib.Omega.{arith}
-use lib.Dec.{eqb, leb}
+use lib.Dec.{leb}
 use borrow.Author.Tests.{not-false}
 use Rattle.below.specs.Lists.{keep, join_over}
 use Rattle.below.proofs.Lists.{join_same, join_none, keep_swap, pick_keep, keep_none, keep_cond, keep_join, over_join, over_one}
@@ -16,14 +16,14 @@ use Rattle.block.proofs.Numbers.{AreBytes}
 use Rattle.day.specs.Days.{closed_day}
 use Rattle.plan.specs.declared.Dose.{Dose}
 use Rattle.plan.specs.Fields.{is_marked, header_of}
-use Rattle.plan.specs.Periods.{blocks_of, block_at, is_period, doses_of, dose_in, has_unmarked, has_marked, mixed, class_by, class_of}
+use Rattle.plan.specs.Periods.{blocks_of, block_at, is_period, doses_of, dose_in, has_unmarked, has_marked, class_by, class_of}
+use Rattle.verdict.specs.Coverage.{in_group}
 use Rattle.doses.specs.Doses.{covers, position_of, applies, doses_of_period, doses_on}
 use Rattle.layout.specs.Layout.{Written, laid_out}
 use Rattle.layout.specs.Reading.{head_of, header_at, doses_at, period_at, periods_of}
 use Rattle.layout.proofs.Back.{periods_read}
 use Rattle.layout.proofs.Blocks.{blocks_laid}
-use Rattle.split.specs.Parts.{run_first, run_last, has_run, is_dosed_in, is_of_part, dosed_period, shares_run, shared, shared_by, shared_in, behind, brought_by, part_of, part_bytes}
-use Rattle.split.specs.Code.Adding.{own_class}
+use Rattle.split.specs.Parts.{group_of, run_first, run_last, has_run, is_dosed_in, is_of_part, dosed_period, shares_run, shared, shared_by, shared_in, behind, brought_by, part_of, part_bytes}
 use Rattle.split.specs.Days.{doses_on_day}
 use Rattle.split.proofs.Adding.{dosed_is}
 use Rattle.split.proofs.Kept.{Kept, kept_few}
@@ -77,7 +77,7 @@ module _ (p : List ℕ) (b : ℕ) where
       (λ j l. rw (not-false (is_marked (dose_in p b j)) (any_not (λ (j : ℕ). not (is_marked (dose_in p b j))) h j l)))
 
   -- a period that is none of the part's has none
-  class_none : (m : Bool) (u v : Bool) → (eqb (class_by u v) (own_class m) || eqb (class_by u v) mixed) ≡ false → cond m v u ≡ false
+  class_none : (m : Bool) (u v : Bool) → in_group (group_of m) (class_by u v) ≡ false → cond m v u ≡ false
   class_none true true true e = absurd (true_not_false refl e)
   class_none true true false e = refl
   class_none true false true e = absurd (true_not_false refl e)

@@ -1,4 +1,5 @@
 -- What an accepted plan keeps of the rules, as far as its parts count on it: the form, rule 6 and rule 16. Assumes nothing.
+use Rattle.std.specs.Prelude.{Ok}
 use Prim.Native.Nat.{ℕ, zero, suc, ◌+◌, ◌-◌, ◌≤◌, ◌<◌}
 use mathlib.Core.Bool.{true, false}
 use mathlib.Core.List.{List}
@@ -12,7 +13,6 @@ use Rattle.below.proofs.Tests.{le_or_lt, true_not_false}
 use Rattle.form.proofs.Formed.{Formed, dated}
 use Rattle.form.proofs.Laws.{right_is, short}
 use Rattle.form.specs.Form.{form_of}
-use Rattle.form.specs.declared.Form.TheVariants.{Right}
 use Rattle.period.specs.Period.{ahead_of, early, period_breaks}
 use Rattle.plan.specs.Fields.{first_of, last_of}
 use Rattle.plan.specs.Periods.{blocks_of, block_at, is_period, class_of}
@@ -20,7 +20,6 @@ use Rattle.verdict.proofs.Exactly.{NoRuleBroken, accepted_only, formed_of}
 use Rattle.verdict.proofs.Lowest.{row_period, row_16}
 use Rattle.verdict.specs.Coverage.{may_share, shares_with, shares}
 use Rattle.verdict.specs.Verdict.{plan_limit, verdict_of}
-use Rattle.verdict.specs.declared.Answer.TheVariants.{Accepted}
 
 pub record Kept (p : List ℕ) : Type 0 where
   -- rules 1 to 4
@@ -32,7 +31,7 @@ pub record Kept (p : List ℕ) : Type 0 where
   pub apart : (b c : ℕ) → b < c → c < blocks_of p → is_period p b ≡ true → is_period p c ≡ true →
       may_share (class_of p b) (class_of p c) ≡ false → last_of (block_at p b) < first_of (block_at p c)
 
-pub kept_right : {p : List ℕ} → Kept p → form_of plan_limit p ≡ Right
+pub kept_right : {p : List ℕ} → Kept p → form_of plan_limit p ≡ Ok tt
 kept_right {p} k = sym (right_is plan_limit p k.form.long k.form.passed)
 
 pub kept_few : {p : List ℕ} → Kept p → blocks_of p ≤ 32
@@ -100,5 +99,5 @@ module _ (p : List ℕ) (n : NoRuleBroken p) where
   pub kept : Kept p
   kept = record { form = formed_of p n; rising = rule_6; apart = rule_16 }
 
-pub accepted_kept : (p : List ℕ) {n : ℕ} → verdict_of p ≡ Accepted n → Kept p
+pub accepted_kept : (p : List ℕ) {n : ℕ} → verdict_of p ≡ Ok n → Kept p
 accepted_kept p e = kept p (accepted_only p e)

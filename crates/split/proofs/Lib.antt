@@ -10,7 +10,7 @@ pub mod Range
 pub mod Order
 pub mod Runs
 pub mod Adding
-pub mod Classes
+pub mod Brought
 pub mod Days
 pub mod Alone
 pub mod Records

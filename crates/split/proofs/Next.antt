@@ -3,11 +3,13 @@ use Prim.Native.Nat.{ℕ, zero, suc, ◌+◌, ◌-◌, ◌≤◌, ◌<◌}
 use mathlib.Core.Bool.{Bool, true, false}
 use mathlib.Core.List.{List}
 use mathlib.Core.Logic.{⊎_elim}
-use mathlib.Core.Path.{◌≡◌}
+use mathlib.Core.Path.{◌≡◌, sym}
 use native.Mathlib.Nat.{eq-or-lt_of_le}
 use native.Mathlib.Omega.{arith}
 use Rattle.below.proofs.Tests.{bool_cases, le_or_lt, true_not_false}
 use Rattle.below.specs.Below.{first_from}
+use Rattle.below.proofs.Search.{from_hit, from_none}
+use Rattle.std.specs.Prelude.{Option, Some, None, MatchOption}
 use Rattle.plan.specs.Periods.{blocks_of}
 use Rattle.split.specs.Parts.{is_dosed_in, next_dosed}
 
@@ -62,3 +64,14 @@ next_le m p b c l q t =
     (λ h. h)
     (λ (h : c < next_dosed m p b). absurd (true_not_false t ((next_is m p b (omega arith)).none c l h)))
     (le_or_lt (next_dosed m p b) c)
+
+-- the answer of a search behind block b
+pub next_found : (m : Bool) (p : List ℕ) (b : ℕ) → b < blocks_of p → (r : Option ℕ) →
+    MatchOption r ((k : ℕ) → b + 1 ≤ k → k < blocks_of p → is_dosed_in m p k ≡ false)
+    (λ c. (b + 1 ≤ c) × (c < blocks_of p) × (is_dosed_in m p c ≡ true) × ((k : ℕ) → b + 1 ≤ k → k < c → is_dosed_in m p k ≡ false)) →
+    MatchOption r (blocks_of p ≤ next_dosed m p b) (λ c. (c < blocks_of p) × (c ≡ next_dosed m p b))
+unfolding next_dosed
+next_found m p b l None none =
+    omega (arith, from_none (is_dosed_in m p) (blocks_of p - (b + 1)) (b + 1) (λ k x y. none k x (omega arith)))
+next_found m p b l (Some c) f =
+    (f.1, sym (from_hit (is_dosed_in m p) (blocks_of p - (b + 1)) (b + 1) c f.0 (omega (arith, f.1)) f.3 f.2))

@@ -1,4 +1,5 @@
 -- The parts of an accepted plan break none of rules 1 to 4. Assumes nothing.
+use Rattle.std.specs.Prelude.{Ok}
 use Prim.Native.Nat.{ℕ, ◌≤◌}
 use mathlib.Core.Bool.{Bool}
 use mathlib.Core.List.{List}
@@ -7,7 +8,6 @@ use native.Mathlib.Omega.{arith}
 use lib.ListN.{length}
 use Rattle.block.proofs.Numbers.{AreBytes}
 use Rattle.form.specs.Form.{form_of}
-use Rattle.form.specs.declared.Form.TheVariants.{Right}
 use Rattle.layout.proofs.Blocks.{length_laid}
 use Rattle.layout.proofs.Every.{every_keep}
 use Rattle.layout.proofs.Fitting.{head_fits, header_fits, period_fits, head_ranged, period_ranged}
@@ -57,6 +57,6 @@ module _ (m : Bool) {p : List ℕ} (bytes : AreBytes p) (k : Kept p) where
   part_short = omega (arith, length_laid (head_of p) (part_of m p), few_blocks m p k bytes)
 
   -- and the right form there
-  pub part_right : form_of room (part_bytes m p) ≡ Right
+  pub part_right : form_of room (part_bytes m p) ≡ Ok tt
   unfolding part_bytes
   part_right = laid_right (head_of p) (part_of m p) (head_fits p bytes) part_fits part_ranged room part_short

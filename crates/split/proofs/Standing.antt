@@ -1,21 +1,23 @@
 -- How the dosed periods of a part, its runs and the empty periods stand in a plan that keeps the rules. Assumes nothing.
 use Prim.Native.Nat.{ℕ, ◌+◌, ◌≤◌, ◌<◌}
-use mathlib.Core.Bool.{Bool, true, false, not, ◌&&◌}
+use mathlib.Core.Bool.{Bool, true, false, ◌&&◌}
 use mathlib.Core.List.{List}
 use mathlib.Core.Logic.{⊎_elim}
 use mathlib.Core.Path.{◌≡◌, refl}
 use native.Mathlib.Nat.{eq-or-lt_of_le}
 use native.Mathlib.Omega.{arith}
-use lib.Dec.{eqb, leb, ltb}
-use borrow.Author.Tests.{leb-true, ltb-true, eqb-true, not-true}
-use Rattle.below.proofs.Search.{all_at_2}
+use lib.Dec.{leb, ltb}
+use borrow.Author.Tests.{leb-true, ltb-true}
 use Rattle.below.proofs.Tests.{and_both, true_not_false, not_true_false}
-use Rattle.below.specs.Below.{all_below}
 use Rattle.day.specs.Days.{last_number}
 use Rattle.form.proofs.Formed.{dated}
 use Rattle.plan.specs.Fields.{first_of, last_of}
-use Rattle.plan.specs.Periods.{blocks_of, block_at, is_period, empty, class_of}
-use Rattle.verdict.proofs.Members.{member_period, class_small}
+use Rattle.plan.specs.Periods.{blocks_of, block_at, is_period, class_of}
+use Rattle.plan.specs.Classes.{is_empty}
+use Rattle.plan.specs.declared.Class.{Class}
+use Rattle.plan.specs.declared.Class.TheVariants.{Empty, Fixed, Need, Mixed}
+use Rattle.plan.proofs.Emptiness.{empty_is}
+use Rattle.verdict.proofs.Members.{member_period}
 use Rattle.verdict.specs.Coverage.{in_group, may_share, has_days, is_member}
 use Rattle.split.specs.Parts.{group_of, is_dosed_in, next_dosed, run_first, run_last, has_run, shares_run}
 use Rattle.split.proofs.Kept.{Kept}
@@ -23,18 +25,20 @@ use Rattle.split.proofs.Next.{next_is, next_le}
 
 -- the period at block b has no doses
 abbrev pub is_blank : List ℕ → ℕ → Bool
-is_blank p b = is_period p b && eqb (class_of p b) empty
+is_blank p b = is_period p b && is_empty (class_of p b)
 
 -- no two classes of one part may share a day
-part_classes : (m : Bool) → all_below 4 (λ x. all_below 4 (λ y. not (in_group (group_of m) x && in_group (group_of m) y && may_share x y))) ≡ true
-unfolding all_below
-part_classes true = refl
-part_classes false = refl
-
-part_alone : (m : Bool) (x y : ℕ) → x < 4 → y < 4 → in_group (group_of m) x ≡ true → in_group (group_of m) y ≡ true → may_share x y ≡ false
-part_alone m x y l h s t =
-    let e = all_at_2 (λ (x y : ℕ). not (in_group (group_of m) x && in_group (group_of m) y && may_share x y)) 4 4 (part_classes m) x y l h in
-    rw (s, t) at (not-true (in_group (group_of m) x && in_group (group_of m) y && may_share x y) e)
+part_alone : (m : Bool) (x y : Class) → in_group (group_of m) x ≡ true → in_group (group_of m) y ≡ true → may_share x y ≡ false
+part_alone true Need Need s t = refl
+part_alone true Need Mixed s t = refl
+part_alone true Need y s t = absurd (true_not_false t refl)
+part_alone true Mixed y s t = refl
+part_alone true x y s t = absurd (true_not_false s refl)
+part_alone false Fixed Fixed s t = refl
+part_alone false Fixed Mixed s t = refl
+part_alone false Fixed y s t = absurd (true_not_false t refl)
+part_alone false Mixed y s t = refl
+part_alone false x y s t = absurd (true_not_false s refl)
 
 module _ {p : List ℕ} (k : Kept p) where
   -- a period's days are in order, and days of the calendar
@@ -46,8 +50,8 @@ module _ {p : List ℕ} (k : Kept p) where
   blank_apart b c l q s t =
       let x = and_both (is_period p b) _ s in
       let y = and_both (is_period p c) _ t in
-      let e : class_of p b ≡ empty = eqb-true _ _ x.1 in
-      let f : class_of p c ≡ empty = eqb-true _ _ y.1 in
+      let e : class_of p b ≡ Empty = empty_is _ x.1 in
+      let f : class_of p c ≡ Empty = empty_is _ y.1 in
       k.apart b c l q x.0 y.0 (rw (e, f))
 
 module _ (p : List ℕ) where
@@ -79,10 +83,10 @@ module _ (m : Bool) (p : List ℕ) where
   dosed_not_blank b t =
       not_true_false _
       (λ s.
-      let e : class_of p b ≡ empty = eqb-true _ _ (and_both (is_period p b) _ s).1 in
+      let e : class_of p b ≡ Empty = empty_is _ (and_both (is_period p b) _ s).1 in
       true_not_false (rw e at (dosed_class b t)) (none_empty m))
     where
-      none_empty : (m : Bool) → in_group (group_of m) empty ≡ false
+      none_empty : (m : Bool) → in_group (group_of m) Empty ≡ false
       none_empty true = refl
       none_empty false = refl
 
@@ -110,7 +114,7 @@ module _ (m : Bool) (p : List ℕ) where
     pub dosed_apart : (b c : ℕ) → b < c → c < blocks_of p → is_dosed_in m p b ≡ true → is_dosed_in m p c ≡ true → last_of (block_at p b) < first_of (block_at p c)
     dosed_apart b c l q s t =
         k.apart b c l q (dosed_period_lem b s) (dosed_period_lem c t)
-        (part_alone m (class_of p b) (class_of p c) (class_small p b) (class_small p c) (dosed_class b s) (dosed_class c t))
+        (part_alone m (class_of p b) (class_of p c) (dosed_class b s) (dosed_class c t))
 
     -- and none begins before one that stands ahead of it
     pub dosed_rising : (b c : ℕ) → b ≤ c → c < blocks_of p → is_dosed_in m p b ≡ true → is_dosed_in m p c ≡ true → first_of (block_at p b) ≤ first_of (block_at p c)

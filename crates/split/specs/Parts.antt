@@ -1,12 +1,13 @@
 -- The periods of the two parts of the plan p. A part goes by the need mark of its doses: false is the fixed part, true the
 -- need part.
-use Rattle.std.specs.Prelude.{ℕ, ◌+◌, ◌-◌, max, min, Bool, cond, ◌&&◌, List, [], ◌∷◌, eqb, leb, ltb}
+use Rattle.std.specs.Prelude.{ℕ, ◌+◌, ◌-◌, max, min, Bool, cond, ◌&&◌, List, [], ◌∷◌, leb, ltb}
 use Rattle.std.specs.Bool.{beq}
 use Rattle.below.specs.Below.{first_from}
 use Rattle.below.specs.Lists.{join_below, keep}
 use Rattle.plan.specs.declared.Dose.{Dose}
 use Rattle.plan.specs.Fields.{first_of, last_of, is_marked}
-use Rattle.plan.specs.Periods.{blocks_of, block_at, is_period, empty, class_of}
+use Rattle.plan.specs.Periods.{blocks_of, block_at, is_period, class_of}
+use Rattle.plan.specs.Classes.{is_empty}
 use Rattle.layout.specs.Layout.{Written, laid_out}
 use Rattle.layout.specs.Reading.{head_of, header_at, doses_at}
 use Rattle.verdict.specs.Coverage.{has_days, is_member}
@@ -47,7 +48,7 @@ has_run marked p b = ltb (next_dosed marked p b) (blocks_of p) && leb (run_first
 
 -- the empty period at block e shares days with the run from lo to hi
 abbrev pub shares_run : List ℕ → ℕ → ℕ → ℕ → Bool
-shares_run p lo hi e = is_period p e && eqb (class_of p e) empty && has_days p lo hi e
+shares_run p lo hi e = is_period p e && is_empty (class_of p e) && has_days p lo hi e
 
 -- "one empty period (interval 0) with the shared days"
 abbrev pub shared : List ℕ → ℕ → ℕ → ℕ → Written

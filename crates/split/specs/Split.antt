@@ -1,13 +1,10 @@
 -- The answer of split, and what its buffers hold afterwards.
-use Rattle.std.specs.Prelude.{ℕ, Bool, true, false, cond, ◌||◌, List, ◌++◌, ltb, length, drop}
-use Rattle.refusal.specs.declared.Refusal.{Refusal}
+use Rattle.std.specs.Prelude.{ℕ, Bool, true, false, cond, ◌||◌, List, ◌++◌, ltb, length, drop, Err, Ok}
 use Rattle.refusal.specs.Refusals.{alone}
-use Rattle.verdict.specs.declared.Answer.{Answer}
-use Rattle.verdict.specs.declared.Answer.TheVariants.{Accepted, Broken}
+use Rattle.verdict.specs.Answers.{Answer}
 use Rattle.verdict.specs.Verdict.{verdict_of}
 use Rattle.split.specs.declared.Lengths.{Lengths}
-use Rattle.split.specs.declared.Parted.{Parted}
-use Rattle.split.specs.declared.Parted.TheVariants.{Parts, Refused}
+use Rattle.split.specs.Answers.{Parted}
 use Rattle.split.specs.Parts.{part_bytes}
 
 -- "Two output buffers of at least 32,768 bytes each, else 25"
@@ -23,20 +20,16 @@ lengths_of p = record { fixed = length (part_bytes false p); need = length (part
 
 -- "else 25, after the verdict"
 abbrev pub split_by : Answer → List ℕ → List ℕ → List ℕ → Parted
-split_by (Broken r) p fixed need = Refused r
-split_by (Accepted n) p fixed need = cond (too_small fixed need) (Refused (alone 25)) (Parts (lengths_of p))
+split_by (Err r) p fixed need = Err r
+split_by (Ok n) p fixed need = cond (too_small fixed need) (Err (alone 25)) (Ok (lengths_of p))
 
 unfoldable pub split_of : List ℕ → List ℕ → List ℕ → Parted
 split_of p fixed need = split_by (verdict_of p) p fixed need
 
--- document 01's number and values for either case: "both parts' lengths in bytes, zeros if refused"
-abbrev pub refusal_in : Parted → Refusal
-refusal_in (Parts n) = alone 0
-refusal_in (Refused r) = r
-
+-- document 01's values for either case: "both parts' lengths in bytes, zeros if refused"
 abbrev pub lengths_in : Parted → Lengths
-lengths_in (Parts n) = n
-lengths_in (Refused r) = record { fixed = 0; need = 0 }
+lengths_in (Ok n) = n
+lengths_in (Err r) = record { fixed = 0; need = 0 }
 
 -- "Bytes behind a part stay as they were."
 unfoldable pub over : List ℕ → List ℕ → List ℕ
@@ -44,5 +37,5 @@ over part out = part ++ drop (length part) out
 
 -- a buffer afterwards: no refusal changes a byte
 abbrev pub left_by : Parted → List ℕ → List ℕ → List ℕ
-left_by (Refused r) part out = out
-left_by (Parts n) part out = over part out
+left_by (Err r) part out = out
+left_by (Ok n) part out = over part out

@@ -2,8 +2,8 @@
 #![tactic(auto)]
 
 use block::byte_at;
-use refusal::Refusal;
-use register::{Released, State, clear, drop_plan, release, sign, state_of, submit};
+use refusal::{Refusal, refusal_in};
+use register::{State, clear, drop_plan, release, sign, state_of, submit};
 use std::io;
 use std::io::Read;
 
@@ -11,26 +11,29 @@ const A: u32 = 101;
 
 const B: u32 = 202;
 
-fn report(out: &impl Print, call: &str, refusal: Refusal) -> io::Result<()> {
-    let Refusal { number, place } = refusal;
-    println!(out; "{call} {number} {place}")
+// What is said of a plan that is not held.
+const NOTHING: State = State {
+    revision: 0,
+    signers: 0,
+};
+
+fn report<T: Copy>(out: &impl Print, call: &str, answer: Result<T, Refusal>) -> io::Result<()> {
+    println!(out; "{call} {}", refusal_in(answer))
 }
 
 fn report_state(out: &impl Print, register: &[u8]) -> io::Result<()> {
-    let State {
-        refusal,
-        revision,
-        signers,
-    } = state_of(register, 7);
-    report(out, "state", refusal)?;
+    let answer = state_of(register, 7);
+    report(out, "state", answer)?;
+    let State { revision, signers } = answer.unwrap_or(NOTHING);
     println!(out; "  revision {revision}, signers {signers}")
 }
 
 fn report_release(out: &impl Print, register: &[u8]) -> io::Result<()> {
     let mut room = [0u8; 16384];
-    let Released { refusal, length } = release(register, 7, &mut room);
+    let answer = release(register, 7, &mut room);
     let revision = byte_at(&room, 16);
-    report(out, "release", refusal)?;
+    report(out, "release", answer)?;
+    let length = answer.unwrap_or(0);
     println!(out; "  bytes {length}, of revision {revision}")
 }
 

@@ -1,9 +1,9 @@
 -- What the walk counts on holds of every plan that is accepted. Assumes nothing.
 use Prim.Native.Nat.{ℕ, zero, suc, ◌-◌, ◌*◌, ◌%◌, ◌≤◌, ◌<◌}
-use mathlib.Core.Bool.{true, false, not, ◌&&◌, ◌||◌}
+use mathlib.Core.Bool.{Bool, true, false, not, ◌||◌}
 use mathlib.Core.List.{List, []}
 use mathlib.Core.Logic.{⊎_elim}
-use mathlib.Core.Path.{◌≡◌, sym, ◌∙◌}
+use mathlib.Core.Path.{◌≡◌, refl, sym, ◌∙◌}
 use native.Mathlib.Nat.{eq-or-lt_of_le}
 use native.Mathlib.Omega.{arith}
 use lib.Dec.{eqb, leb, ltb}
@@ -11,7 +11,7 @@ use lib.ListN.{length}
 use lib.Seq.{drop-length, take-nil}
 use borrow.Author.Tests.{ltb-false, lt-ltb, leb-true, le-leb, eqb-true, ne_eqb, not-false}
 use Rattle.below.proofs.Search.{any_not}
-use Rattle.below.proofs.Tests.{and_both, or_either, or_neither, not_true_false}
+use Rattle.below.proofs.Tests.{and_both, or_neither, not_true_false, true_not_false}
 use Rattle.block.proofs.Numbers.{number_past}
 use Rattle.doses.specs.Doses.{covers}
 use Rattle.form.proofs.Formed.{dated}
@@ -20,7 +20,10 @@ use Rattle.need.proofs.Rows.{chosen_in}
 use Rattle.period.specs.Doses.{falls, dose_breaks}
 use Rattle.period.specs.Period.{limit_of, period_breaks}
 use Rattle.plan.specs.Fields.{interval_of, first_of, last_of}
-use Rattle.plan.specs.Periods.{blocks_of, block_at, is_period, doses_of, dose_in, class_of, empty, fixed, need}
+use Rattle.plan.specs.Periods.{blocks_of, block_at, is_period, doses_of, dose_in, class_of}
+use Rattle.plan.specs.Classes.{same_class}
+use Rattle.plan.specs.declared.Class.{Class}
+use Rattle.plan.specs.declared.Class.TheVariants.{Empty, Fixed, Need}
 use Rattle.verdict.proofs.Exactly.{NoRuleBroken, formed_of}
 use Rattle.verdict.proofs.Lowest.{row_period, row_16}
 use Rattle.verdict.specs.Coverage.{may_share, shares_with, shares}
@@ -28,35 +31,22 @@ use Rattle.verdict.specs.Verdict.{plan_limit}
 use Rattle.supply.specs.Code.Standing.{Sorted, InRound, Orderly}
 
 -- of two periods that may share a day one is need, and the other is not
-record Mixed (x y : ℕ) : Type 0 where
-  one : (x ≡ need → y ≡ need → ⊥)
-  other : ((x ≡ need → ⊥) → y ≡ need)
+abbrev is_need : Class → Bool
+is_need x = same_class x Need
 
-mixed : (x y : ℕ) → may_share x y ≡ true → Mixed x y
-mixed x y h =
-    ⊎_elim
-    (λ (t : (eqb x need && (eqb y fixed || eqb y empty)) ≡ true).
-    let a = and_both _ _ t in
-    let n = eqb-true x need a.0 in
-    record { one = λ e f. apart y a.1 f; other = λ g. absurd (g n) })
-    (λ (t : (eqb y need && (eqb x fixed || eqb x empty)) ≡ true).
-    let a = and_both _ _ t in
-    let n = eqb-true y need a.0 in
-    record { one = λ e f. apart x a.1 e; other = λ g. n })
-    (or_either _ _ h)
-  where
-    apart : (z : ℕ) → (eqb z fixed || eqb z empty) ≡ true → z ≡ need → ⊥
-    apart z t e =
-        ⊎_elim
-        (λ (u : eqb z fixed ≡ true). omega (arith, eqb-true z fixed u))
-        (λ (u : eqb z empty ≡ true). omega (arith, eqb-true z empty u))
-        (or_either _ _ t)
+mixed : (x y : Class) → may_share x y ≡ true → is_need x ≡ not (is_need y)
+mixed Need Fixed h = refl
+mixed Need Empty h = refl
+mixed Fixed Need h = refl
+mixed Empty Need h = refl
+mixed x y h = absurd (true_not_false h refl)
 
 -- so of three periods two may not
-no_three : (x y z : ℕ) → Mixed x y → Mixed x z → Mixed y z → ⊥
-no_three x y z a b c =
-    let n : x ≡ need → ⊥ = λ e. let y' : (y ≡ need → ⊥) = a.one e in b.one e (c.other y') in
-    c.one (a.other n) (b.other n)
+no_three : (x y z : Bool) → x ≡ not y → x ≡ not z → y ≡ not z → ⊥
+no_three x true true a b c = true_not_false refl c
+no_three x true false a b c = true_not_false b a
+no_three x false true a b c = true_not_false a b
+no_three x false false a b c = true_not_false c refl
 
 -- what it says that the period at block b has day d
 record Covering (p : List ℕ) (d b : ℕ) : Type 0 where
@@ -123,7 +113,7 @@ module _ (p : List ℕ) (ok : NoRuleBroken p) where
         (eq-or-lt_of_le a)
 
   -- rule 16: two periods that share a day may
-  shared : (d b c : ℕ) → b < c → c < blocks_of p → covers p d b ≡ true → covers p d c ≡ true → Mixed (class_of p b) (class_of p c)
+  shared : (d b c : ℕ) → b < c → c < blocks_of p → covers p d b ≡ true → covers p d c ≡ true → is_need (class_of p b) ≡ not (is_need (class_of p c))
   unfolding shares shares_with
   shared d b c l q h g =
       let x = covering p d b h in
@@ -137,7 +127,7 @@ module _ (p : List ℕ) (ok : NoRuleBroken p) where
   two : (d a b c : ℕ) → a < b → b < c → c < blocks_of p → covers p d a ≡ true → covers p d b ≡ true → covers p d c ≡ false
   two d a b c l m q h g =
       not_true_false (covers p d c)
-      (λ f. no_three _ _ _ (shared d a b l (omega arith) h g) (shared d a c (omega arith) q h f) (shared d b c m q g f))
+      (λ f. no_three (is_need (class_of p a)) (is_need (class_of p b)) (is_need (class_of p c)) (shared d a b l (omega arith) h g) (shared d a c (omega arith) q h f) (shared d b c m q g f))
 
   pub orderly : (choice : ℕ) → Orderly choice p
   orderly choice =

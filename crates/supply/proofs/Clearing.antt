@@ -1,13 +1,13 @@
 -- Of which period whole rounds may be taken on a day, pauses apart, and up to which day. Assumes nothing.
 use Prim.Native.Nat.{ℕ, ◌+◌, ◌≤◌, ◌<◌}
-use mathlib.Core.Bool.{Bool, true, false, not, ◌&&◌}
+use mathlib.Core.Bool.{Bool, true, false, cond, not, ◌&&◌}
 use mathlib.Core.List.{List}
 use mathlib.Core.Logic.{⊎_elim}
-use mathlib.Core.Path.{◌≡◌, refl, sym, subst, ◌∙◌}
+use mathlib.Core.Path.{◌≡◌, refl, sym, ap, subst, ◌∙◌}
 use native.Mathlib.Nat.{eq-or-lt_of_le}
 use native.Mathlib.Omega.{arith}
 use lib.Dec.{eqb, leb, ltb}
-use borrow.Author.Tests.{eqb-true, eq-eqb, ne_eqb, lt-ltb, le-leb, lt-leb, leb-true, not-true, not-false}
+use borrow.Author.Tests.{eqb-true, eq-eqb, ne_eqb, ltb-true, lt-ltb, le-leb, lt-leb, leb-true, not-true, not-false}
 use Rattle.below.proofs.Search.{first_is, first_none, first_same, first_facts, any_not, any_none, any_hit, any_same}
 use Rattle.below.proofs.Tests.{bool_cases, and_both, and_false, true_not_false, le_or_lt, same_or_not}
 use Rattle.below.specs.Below.{any_below}
@@ -17,33 +17,27 @@ use Rattle.plan.specs.Fields.{interval_of, first_of, last_of}
 use Rattle.plan.specs.Periods.{blocks_of, block_at, is_period}
 use Rattle.supply.specs.Covered.{summed}
 use Rattle.supply.specs.Steps.{is_chosen, has_other, is_alone}
-use Rattle.supply.specs.Code.Standing.{Orderly, Counts, IsAt, kept_of, need_of, round_need, need_in, Reach, alone_on, Rounded, Steady, InBoth}
-use Rattle.supply.specs.declared.place.Candidate.{Candidate}
+use Rattle.supply.specs.Code.Standing.{Orderly, Counts, period_of, period_at, kept_of, free_of, need_of, round_need, need_in, alone_on, Rounded, Steady, Next}
+use Rattle.supply.specs.Code.Surveying.{Flag}
+use Rattle.std.specs.Prelude.{Option, Some, None, MatchOption, IfSome}
+use Rattle.std.specs.Option.{option_or}
+use Rattle.supply.specs.declared.place.Period.{Period}
 use Rattle.supply.specs.declared.rounds.Round.{Round}
 use Rattle.supply.proofs.Accepted.{covers_period, covers_begun}
 use Rattle.supply.proofs.Covering.{summed_one}
 use Rattle.supply.proofs.WholeRounds.{idle_need, alone_need, one_round}
 
 -- a period that is kept only if it has doses of the choice needs what it needs
-module _ {choice : ℕ} {p : List ℕ} {b : ℕ} {t : Candidate} (x : IsAt choice p b t) where
-  pub kept_none : blocks_of p ≤ b → (e : ℕ) → need_in choice p (kept_of t) e ≡ 0
-  kept_none l e = rw (x.past l).0
+module _ {choice : ℕ} {p : List ℕ} {b : ℕ} {k : Bool} (x : Flag choice p (blocks_of p) b k) where
+  pub kept_none : blocks_of p ≤ b → (e : ℕ) → need_in choice p (kept_of (period_at p b) k) e ≡ 0
+  kept_none l e = rw (x.none l)
 
-  pub kept_some : b < blocks_of p → is_period p b ≡ true → (e : ℕ) → need_in choice p (kept_of t) e ≡ need_of choice p b e
-  kept_some l h e =
-      let q = x.block l in
-      let k = x.chosen_is l h in
+  pub kept_some : b < blocks_of p → (e : ℕ) → need_in choice p (kept_of (period_at p b) k) e ≡ need_of choice p b e
+  kept_some l e =
       ⊎_elim
-      (λ (u : is_chosen choice p b ≡ true). rw (q.0, q.1, k, u))
-      (λ (u : is_chosen choice p b ≡ false). rw (q.0, q.1, k, u) (sym (idle_need choice p b u e)))
-      (bool_cases (is_chosen choice p b))
-
--- a test of three parts
-pub three : (a b c : Bool) {r : Bool} → r ≡ (a && b) → (r && not c) ≡ true → (a ≡ true) × (b ≡ true) × (c ≡ false)
-three a b c e t =
-    let x = and_both _ (not c) t in
-    let y = and_both a b (sym e ∙ x.0) in
-    (y.0, y.1, not-true c x.1)
+      (λ (u : k ≡ true). rw (u, lt-ltb b (blocks_of p) l))
+      (λ (u : k ≡ false). rw u (sym (idle_need choice p b (sym (x.is l) ∙ u) e)))
+      (bool_cases k)
 
 -- two days in the same periods are alone in the same ones
 module _ (choice : ℕ) (p : List ℕ) (d e : ℕ) (same : (a : ℕ) → a < blocks_of p → covers p e a ≡ covers p d a) where
@@ -96,27 +90,31 @@ module _ (choice : ℕ) (p : List ℕ) (o : Orderly choice p) where
       }
 
 -- a period with doses of the choice that has the day is the one of the rounds, if there are any
-module _ {choice : ℕ} {p : List ℕ} {d b : ℕ} {t : Candidate} {r : Round} (x : IsAt choice p b t) (has : b < blocks_of p → covers p d b ≡ true) (k : Rounded choice p d r) (i : 0 < r.interval) (a : (kept_of t).any ≡ true) where
-  kept_within : b < blocks_of p
-  kept_within = ⊎_elim (λ (l : blocks_of p ≤ b). absurd (true_not_false (and_both t.any _ a).0 (x.past l).0)) (λ l. l) (le_or_lt (blocks_of p) b)
+module _ {choice : ℕ} {p : List ℕ} {d b : ℕ} {k : Bool} {r : Round} (x : Flag choice p (blocks_of p) b k) (has : b < blocks_of p → covers p d b ≡ true) (rounded : Rounded choice p d r) (i : 0 < r.interval) where
+  kept_within : k ≡ true → b < blocks_of p
+  kept_within a = ⊎_elim (λ (l : blocks_of p ≤ b). absurd (true_not_false a (x.none l))) (λ l. l) (le_or_lt (blocks_of p) b)
 
-  pub kept_chosen : is_chosen choice p b ≡ true
-  kept_chosen = sym (x.chosen_is kept_within (covers_period p d b (has kept_within))) ∙ (and_both t.any _ a).1
+  pub kept_chosen : k ≡ true → is_chosen choice p b ≡ true
+  kept_chosen a = sym (x.is (kept_within a)) ∙ a
 
-  pub kept_on : b ≡ alone_on choice p d
+  pub kept_on : k ≡ true → b ≡ alone_on choice p d
   unfolding has_other
-  kept_on =
-      let q = k.reach i in
+  kept_on a =
+      let q = rounded.reach i in
       let n = not-true _ (and_both (covers p d (alone_on choice p d)) _ (q.all d (omega arith) q.reached)).1 in
-      let z = rw (has kept_within, kept_chosen) at (any_not (λ (a : ℕ). not (eqb a (alone_on choice p d)) && (covers p d a && is_chosen choice p a)) n b kept_within) in
+      let z = rw (has (kept_within a), kept_chosen a) at (any_not (λ (c : ℕ). not (eqb c (alone_on choice p d)) && (covers p d c && is_chosen choice p c)) n b (kept_within a)) in
       eqb-true b _ (bare (eqb b (alone_on choice p d)) z)
     where
       bare : (t : Bool) → (not t && true) ≡ false → t ≡ true
       bare true e = refl
       bare false e = absurd (true_not_false refl e)
 
-  pub whose : t.interval ≡ r.interval
-  whose = x.interval_is kept_within ∙ rw kept_on (sym k.interval_is)
+  pub whose : IfSome (kept_of (period_at p b) k) (λ t. t.interval ≡ r.interval)
+  whose =
+      ⊎_elim
+      (λ (a : k ≡ true). rw (a, lt-ltb b (blocks_of p) (kept_within a)) (rw (kept_on a) (sym rounded.interval_is)))
+      (λ (a : k ≡ false). rw a tt)
+      (bool_cases k)
 
 -- a day is not alone in a period where another one with doses of the choice has it
 crowded : (choice : ℕ) (p : List ℕ) (d a b : ℕ) → b < blocks_of p → (b ≡ a → ⊥) → covers p d b ≡ true → is_chosen choice p b ≡ true → is_alone choice p a d ≡ false
@@ -155,162 +153,161 @@ due_round choice p o b d l a i =
     let q = subst (λ (k : ℕ). summed (need_of choice p b) d k ≡ round_need choice p b) i (one_round choice p b some (o.rounds b l (alone_period choice p b d a) some) d begun) in
     alone_need choice p b d o.few a l ∙ sym (summed_one (need_of choice p b) d) ∙ q
 
--- r has the rounds of a period t
-abbrev pub RoundsOf : ℕ → List ℕ → ℕ → Candidate → Round → Type 0
-RoundsOf choice p d t r = (r.interval ≡ t.interval) × (r.need ≡ round_need choice p t.b) × Reach (is_alone choice p t.b) d r.until
+-- whole rounds of the period t may be taken: it is one of the plan's, and the first that has the day and is alone
+pub record Free (choice : ℕ) (p : List ℕ) (d : ℕ) (t : Period) : Type 0 where
+  pub is : t ≡ period_of p t.b
+  pub within : t.b < blocks_of p
+  pub on : alone_on choice p d ≡ t.b
+  pub alone : is_alone choice p t.b d ≡ true
 
--- a period at block b
-module _ (choice : ℕ) (p : List ℕ) (d : ℕ) {b : ℕ} {t : Candidate} (at : IsAt choice p b t) (l : b < blocks_of p) where
-  rounded_by : {r : Round} → alone_on choice p d ≡ b → RoundsOf choice p d t r → Rounded choice p d r
-  rounded_by on r =
-      let e : t.b ≡ alone_on choice p d = (at.block l).1 ∙ sym on in
-      let v : interval_of (block_at p (alone_on choice p d)) ≡ t.interval = rw on (sym (at.interval_is l)) in
-      record { interval_is = r.0 ∙ sym v; need_is = λ z. rw (← e) r.1; reach = λ z. rw (← e) r.2 }
+-- of a period, or of none
+abbrev pub FreeOn : ℕ → List ℕ → ℕ → Option Period → Type 0
+FreeOn choice p d t = MatchOption t (alone_on choice p d ≡ blocks_of p) (Free choice p d)
 
-  counts_by : Orderly choice p → is_alone choice p b d ≡ true → {due : ℕ} → due ≡ due_on choice p d → Counts choice p t due
-  counts_by o a z =
-      let e = (at.block l).1 in
-      record {
-        small = rw e (o.small b l (alone_period choice p b d a));
-        all = rw e (at.doses_is l);
-        day = λ i. rw e (z ∙ due_round choice p o b d l a (sym (at.interval_is l) ∙ i));
-      }
+-- what its rounds need can be counted
+pub counts_free : (choice : ℕ) (p : List ℕ) (d : ℕ) → Orderly choice p → (t : Option Period) → FreeOn choice p d t → {due : ℕ} → due ≡ due_on choice p d → IfSome t (λ t. Counts choice p t due)
+counts_free choice p d o None f z = tt
+counts_free choice p d o (Some t) f z =
+    let i : t.interval ≡ interval_of (block_at p t.b) = ap (λ (x : Period). x.interval) f.is in
+    record {
+      small = o.small t.b f.within (alone_period choice p t.b d f.alone);
+      all = ap (λ (x : Period). x.doses) f.is;
+      day = λ n. z ∙ due_round choice p o t.b d f.within f.alone (sym i ∙ n);
+    }
 
--- ---- the one or two periods that have a day
-module _ (choice : ℕ) (p : List ℕ) (o : Orderly choice p) (d : ℕ) {one other : Candidate} (x : InBoth choice p d one other) where
+-- ---- the one or two periods that have a day, at blocks b and c
+module _ (choice : ℕ) (p : List ℕ) (o : Orderly choice p) (d : ℕ) {b c : ℕ} (first : Next p d 0 b) (second : Next p d (b + 1) c) {k m : Bool} (one : Flag choice p (blocks_of p) b k) (other : Flag choice p (blocks_of p) c m) where
   -- no third one has it
-  either : (k : ℕ) → k < blocks_of p → (k ≡ x.b → ⊥) → (k ≡ x.c → ⊥) → covers p d k ≡ false
-  either k l m n =
+  either : (a : ℕ) → a < blocks_of p → (a ≡ b → ⊥) → (a ≡ c → ⊥) → covers p d a ≡ false
+  either a l x y =
       ⊎_elim
-      (λ (h : x.b ≤ k).
+      (λ (h : b ≤ a).
       ⊎_elim
-      (λ (g : x.c ≤ k). o.two d x.b x.c k (omega (arith, x.second.behind)) (omega (arith, n)) l (x.first.here (omega arith)) (x.second.here (omega arith)))
-      (λ (g : k < x.c). x.second.before k (omega (arith, m)) g)
-      (le_or_lt x.c k))
-      (λ (h : k < x.b). x.first.before k (omega arith) h)
-      (le_or_lt x.b k)
+      (λ (g : c ≤ a). o.two d b c a (omega (arith, second.behind)) (omega (arith, y)) l (first.here (omega arith)) (second.here (omega arith)))
+      (λ (g : a < c). second.before a (omega (arith, x)) g)
+      (le_or_lt c a))
+      (λ (h : a < b). first.before a (omega arith) h)
+      (le_or_lt b a)
 
   -- one of the two is alone where the other has no doses of the choice
-  alone_if : (a b : ℕ) → a < blocks_of p → covers p d a ≡ true → ((k : ℕ) → k < blocks_of p → (k ≡ a → ⊥) → (k ≡ b → ⊥) → covers p d k ≡ false) → (b < blocks_of p → covers p d b ≡ true → is_chosen choice p b ≡ false) → is_alone choice p a d ≡ true
+  alone_if : (x y : ℕ) → x < blocks_of p → covers p d x ≡ true → ((a : ℕ) → a < blocks_of p → (a ≡ x → ⊥) → (a ≡ y → ⊥) → covers p d a ≡ false) → (y < blocks_of p → is_chosen choice p y ≡ false) → is_alone choice p x d ≡ true
   unfolding has_other
-  alone_if a b l c e f =
-      let n : any_below (blocks_of p) (λ k. not (eqb k a) && (covers p d k && is_chosen choice p k)) ≡ false =
+  alone_if x y l has e f =
+      let n : any_below (blocks_of p) (λ a. not (eqb a x) && (covers p d a && is_chosen choice p a)) ≡ false =
       any_none _
-      (λ k q.
+      (λ a q.
       ⊎_elim
-      (λ (z : k ≡ a). rw (eq-eqb k a z))
-      (λ (z : (k ≡ a → ⊥)).
+      (λ (z : a ≡ x). rw (eq-eqb a x z))
+      (λ (z : (a ≡ x → ⊥)).
       ⊎_elim
-      (λ (y : covers p d k ≡ true).
+      (λ (v : covers p d a ≡ true).
       ⊎_elim
-      (λ (w : k ≡ b). rw (ne_eqb k a z, y) (rw w (f (rw w at q) (rw w at y))))
-      (λ (w : (k ≡ b → ⊥)). absurd (true_not_false y (e k q z w)))
-      (same_or_not k b))
-      (λ (y : covers p d k ≡ false). rw (ne_eqb k a z, y))
-      (bool_cases (covers p d k)))
-      (same_or_not k a)) in
-      rw (c, n)
+      (λ (w : a ≡ y). rw (ne_eqb a x z, v) (rw w (f (rw w at q))))
+      (λ (w : (a ≡ y → ⊥)). absurd (true_not_false v (e a q z w)))
+      (same_or_not a y))
+      (λ (v : covers p d a ≡ false). rw (ne_eqb a x z, v))
+      (bool_cases (covers p d a)))
+      (same_or_not a x)) in
+      rw (has, n)
 
-  apart : x.c ≡ x.b → ⊥
-  apart e = omega (arith, x.second.behind)
+  apart : c ≡ b → ⊥
+  apart e = omega (arith, second.behind)
 
-  one_chosen : x.b < blocks_of p → one.chosen ≡ is_chosen choice p x.b
-  one_chosen l = x.one_is.chosen_is l (covers_period p d x.b (x.first.here l))
+  alone_one : b < blocks_of p → m ≡ false → is_alone choice p b d ≡ true
+  alone_one l f = alone_if b c l (first.here l) either (λ q. sym (other.is q) ∙ f)
 
-  other_chosen : x.c < blocks_of p → other.chosen ≡ is_chosen choice p x.c
-  other_chosen l = x.other_is.chosen_is l (covers_period p d x.c (x.second.here l))
-
-  pub alone_one : x.b < blocks_of p → other.chosen ≡ false → is_alone choice p x.b d ≡ true
-  alone_one l f = alone_if x.b x.c l (x.first.here l) either (λ m z. sym (other_chosen m) ∙ f)
-
-  pub alone_other : x.c < blocks_of p → one.chosen ≡ false → is_alone choice p x.c d ≡ true
-  alone_other l f = alone_if x.c x.b l (x.second.here l) (λ k q m n. either k q n m) (λ m z. sym (one_chosen m) ∙ f)
-
-  -- which are those of the plan, by what is known of the two
-  pub one_within : one.any ≡ true → x.b < blocks_of p
-  one_within a = ⊎_elim (λ (l : blocks_of p ≤ x.b). absurd (true_not_false a (x.one_is.past l).0)) (λ l. l) (le_or_lt (blocks_of p) x.b)
-
-  pub other_within : other.any ≡ true → x.c < blocks_of p
-  other_within a = ⊎_elim (λ (l : blocks_of p ≤ x.c). absurd (true_not_false a (x.other_is.past l).0)) (λ l. l) (le_or_lt (blocks_of p) x.c)
+  alone_other : c < blocks_of p → k ≡ false → is_alone choice p c d ≡ true
+  alone_other l f = alone_if c b l (second.here l) (λ a q x y. either a q y x) (λ q. sym (one.is q) ∙ f)
 
   abbrev test : ℕ → Bool
-  test k = ltb 0 (interval_of (block_at p k)) && is_alone choice p k d
+  test a = ltb 0 (interval_of (block_at p a)) && is_alone choice p a d
 
   -- no other block passes
-  test_out : (k : ℕ) → k < blocks_of p → (k ≡ x.b → ⊥) → (k ≡ x.c → ⊥) → test k ≡ false
-  test_out k l m n = rw (either k l m n, and_false (ltb 0 (interval_of (block_at p k))))
+  test_out : (a : ℕ) → a < blocks_of p → (a ≡ b → ⊥) → (a ≡ c → ⊥) → test a ≡ false
+  test_out a l x y = rw (either a l x y, and_false (ltb 0 (interval_of (block_at p a))))
 
-  -- the first of the two fails where it is not iterated, or the other has doses of the choice
-  test_one : x.b < blocks_of p → ((one.any && ltb 0 one.interval) && not other.chosen) ≡ false → test x.b ≡ false
+  -- which of the two is free
+  abbrev is_free : ℕ → Bool → Bool
+  is_free a crowd = ltb a (blocks_of p) && (ltb 0 (interval_of (block_at p a)) && not crowd)
+
+  free_at : (a : ℕ) (crowd : Bool) → free_of (period_at p a) crowd ≡ cond (is_free a crowd) (Some (period_of p a)) None
+  free_at a crowd = ⊎_elim (λ (t : ltb a (blocks_of p) ≡ true). rw t) (λ (t : ltb a (blocks_of p) ≡ false). rw t) (bool_cases (ltb a (blocks_of p)))
+
+  -- one fails where it is not iterated, or the other has doses of the choice
+  test_one : b < blocks_of p → is_free b m ≡ false → test b ≡ false
   test_one l f =
-      let q = x.one_is.block l in
-      let i = x.one_is.interval_is l in
       ⊎_elim
-      (λ (t : ltb 0 one.interval ≡ true).
-      let h : other.chosen ≡ true = not-false _ (rw (q.0, t) at f) in
+      (λ (t : ltb 0 (interval_of (block_at p b)) ≡ true).
+      let h : m ≡ true = not-false _ (rw (lt-ltb b (blocks_of p) l, t) at f) in
       ⊎_elim
-      (λ (z : blocks_of p ≤ x.c). absurd (true_not_false h (x.other_is.past z).1))
-      (λ (z : x.c < blocks_of p). rw (crowded choice p d x.b x.c z apart (x.second.here z) (sym (other_chosen z) ∙ h), and_false (ltb 0 (interval_of (block_at p x.b)))))
-      (le_or_lt (blocks_of p) x.c))
-      (λ (t : ltb 0 one.interval ≡ false). rw (← i, t))
-      (bool_cases (ltb 0 one.interval))
+      (λ (z : blocks_of p ≤ c). absurd (true_not_false h (other.none z)))
+      (λ (z : c < blocks_of p). rw (crowded choice p d b c z apart (second.here z) (sym (other.is z) ∙ h), and_false (ltb 0 (interval_of (block_at p b)))))
+      (le_or_lt (blocks_of p) c))
+      (λ (t : ltb 0 (interval_of (block_at p b)) ≡ false). rw t)
+      (bool_cases (ltb 0 (interval_of (block_at p b))))
 
-  test_other : x.c < blocks_of p → ((other.any && ltb 0 other.interval) && not one.chosen) ≡ false → test x.c ≡ false
+  test_other : c < blocks_of p → is_free c k ≡ false → test c ≡ false
   test_other l f =
-      let q = x.other_is.block l in
-      let i = x.other_is.interval_is l in
-      let b : x.b < blocks_of p = omega (arith, x.second.behind) in
+      let q : b < blocks_of p = omega (arith, second.behind) in
       ⊎_elim
-      (λ (t : ltb 0 other.interval ≡ true).
-      let h : one.chosen ≡ true = not-false _ (rw (q.0, t) at f) in
-      rw (crowded choice p d x.c x.b b (λ e. apart (sym e)) (x.first.here b) (sym (one_chosen b) ∙ h), and_false (ltb 0 (interval_of (block_at p x.c)))))
-      (λ (t : ltb 0 other.interval ≡ false). rw (← i, t))
-      (bool_cases (ltb 0 other.interval))
+      (λ (t : ltb 0 (interval_of (block_at p c)) ≡ true).
+      let h : k ≡ true = not-false _ (rw (lt-ltb c (blocks_of p) l, t) at f) in
+      rw (crowded choice p d c b q (λ e. apart (sym e)) (first.here q) (sym (one.is q) ∙ h), and_false (ltb 0 (interval_of (block_at p c)))))
+      (λ (t : ltb 0 (interval_of (block_at p c)) ≡ false). rw t)
+      (bool_cases (ltb 0 (interval_of (block_at p c))))
 
   -- so the rounds are those of the first, of the second, or there are none
-  on_one : one.any ≡ true → 0 < one.interval → other.chosen ≡ false → alone_on choice p d ≡ x.b
-  on_one a i f =
-      let l = one_within a in
-      first_is test l (λ k q. test_out k (omega arith) (λ e. omega arith) (λ e. omega (arith, x.second.behind)))
-      (rw (← x.one_is.interval_is l, lt-ltb 0 one.interval i, alone_one l f))
+  free_one : is_free b m ≡ true → Free choice p d (period_of p b)
+  free_one t =
+      let x = and_both (ltb b (blocks_of p)) _ t in
+      let y = and_both (ltb 0 (interval_of (block_at p b))) _ x.1 in
+      let l = ltb-true b (blocks_of p) x.0 in
+      let a = alone_one l (not-true m y.1) in
+      record {
+        is = refl;
+        within = l;
+        on = first_is test l (λ j q. test_out j (omega arith) (λ e. omega arith) (λ e. omega (arith, second.behind))) (rw (y.0, a));
+        alone = a;
+      }
 
-  on_other : ((one.any && ltb 0 one.interval) && not other.chosen) ≡ false → other.any ≡ true → 0 < other.interval → one.chosen ≡ false → alone_on choice p d ≡ x.c
-  on_other n a i f =
-      let l = other_within a in
-      first_is test l
-      (λ k q.
-      ⊎_elim
-      (λ (e : k ≡ x.b). rw e (test_one (omega (arith, x.second.behind)) n))
-      (λ (e : (k ≡ x.b → ⊥)). test_out k (omega arith) e (λ z. omega arith))
-      (same_or_not k x.b))
-      (rw (← x.other_is.interval_is l, lt-ltb 0 other.interval i, alone_other l f))
+  free_other : is_free b m ≡ false → is_free c k ≡ true → Free choice p d (period_of p c)
+  free_other n t =
+      let x = and_both (ltb c (blocks_of p)) _ t in
+      let y = and_both (ltb 0 (interval_of (block_at p c))) _ x.1 in
+      let l = ltb-true c (blocks_of p) x.0 in
+      let a = alone_other l (not-true k y.1) in
+      record {
+        is = refl;
+        within = l;
+        on =
+            first_is test l
+            (λ j q.
+            ⊎_elim
+            (λ (e : j ≡ b). rw e (test_one (omega (arith, second.behind)) n))
+            (λ (e : (j ≡ b → ⊥)). test_out j (omega arith) e (λ z. omega arith))
+            (same_or_not j b))
+            (rw (y.0, a));
+        alone = a;
+      }
 
-  on_none : ((one.any && ltb 0 one.interval) && not other.chosen) ≡ false → ((other.any && ltb 0 other.interval) && not one.chosen) ≡ false → alone_on choice p d ≡ blocks_of p
-  on_none m n =
+  free_none : is_free b m ≡ false → is_free c k ≡ false → alone_on choice p d ≡ blocks_of p
+  free_none x y =
       first_none test (blocks_of p)
-      (λ k q.
+      (λ j q.
       ⊎_elim
-      (λ (e : k ≡ x.b). rw e (test_one (rw e at q) m))
-      (λ (e : (k ≡ x.b → ⊥)).
-      ⊎_elim (λ (z : k ≡ x.c). rw z (test_other (rw z at q) n)) (λ (z : (k ≡ x.c → ⊥)). test_out k q e z) (same_or_not k x.c))
-      (same_or_not k x.b))
+      (λ (e : j ≡ b). rw e (test_one (rw e at q) x))
+      (λ (e : (j ≡ b → ⊥)).
+      ⊎_elim (λ (z : j ≡ c). rw z (test_other (rw z at q) y)) (λ (z : (j ≡ c → ⊥)). test_out j q e z) (same_or_not j c))
+      (same_or_not j b))
 
-  -- what `rounds_on` says, and what it asks
-  pub rounded_one : {r : Round} → one.any ≡ true → 0 < one.interval → other.chosen ≡ false → RoundsOf choice p d one r → Rounded choice p d r
-  rounded_one a i f = rounded_by choice p d x.one_is (one_within a) (on_one a i f)
-
-  pub rounded_other : {r : Round} → ((one.any && ltb 0 one.interval) && not other.chosen) ≡ false → other.any ≡ true → 0 < other.interval → one.chosen ≡ false → RoundsOf choice p d other r → Rounded choice p d r
-  rounded_other m a i f = rounded_by choice p d x.other_is (other_within a) (on_other m a i f)
-
-  pub counts_one : {due : ℕ} → due ≡ due_on choice p d → one.any ≡ true → other.chosen ≡ false → Counts choice p one due
-  counts_one z a f = let l = one_within a in counts_by choice p d x.one_is l o (alone_one l f) z
-
-  pub counts_other : {due : ℕ} → due ≡ due_on choice p d → other.any ≡ true → one.chosen ≡ false → Counts choice p other due
-  counts_other z a f = let l = other_within a in counts_by choice p d x.other_is l o (alone_other l f) z
-
-  pub rounded_none : {r : Round} → r.interval ≡ 0 → ((one.any && ltb 0 one.interval) && not other.chosen) ≡ false → ((other.any && ltb 0 other.interval) && not one.chosen) ≡ false → Rounded choice p d r
-  rounded_none {r} z m n =
-      record { interval_is = z ∙ rw (on_none m n) (sym o.ends); need_is = λ i. absurd (omega arith); reach = λ i. absurd (omega arith) }
+  pub free_on : FreeOn choice p d (option_or (free_of (period_at p b) m) (free_of (period_at p c) k))
+  free_on =
+      rw (free_at b m, free_at c k)
+      (⊎_elim
+      (λ (x : is_free b m ≡ true). rw x (free_one x))
+      (λ (x : is_free b m ≡ false).
+      ⊎_elim (λ (y : is_free c k ≡ true). rw (x, y) (free_other x y)) (λ (y : is_free c k ≡ false). rw (x, y) (free_none x y)) (bool_cases (is_free c k)))
+      (bool_cases (is_free b m)))
 
 -- ---- up to which day the days are alone
 -- a period has the days from its first to its last
@@ -326,9 +323,6 @@ module _ (p : List ℕ) (d b : ℕ) (c : covers p d b ≡ true) where
 module _ (p : List ℕ) (e b : ℕ) where
   pub covers_past : last_of (block_at p b) < e → covers p e b ≡ false
   covers_past l = rw (lt-leb e (last_of (block_at p b)) l, and_false (leb (first_of (block_at p b)) e), and_false (is_period p b))
-
-  pub covers_ahead : e < first_of (block_at p b) → covers p e b ≡ false
-  covers_ahead l = rw (lt-leb (first_of (block_at p b)) e l, and_false (is_period p b))
 
 module _ (choice : ℕ) (p : List ℕ) (b : ℕ) where
   -- the period at block c has day e, has doses of the choice, and is another

@@ -1,4 +1,5 @@
 -- What the steps of supply answer: what the walk over the days does, in no more steps than days. Assumes nothing.
+use Rattle.std.specs.Prelude.{Err, Ok}
 use Prim.Native.Nat.{ℕ, ◌+◌, ◌-◌, ◌≤◌, ◌<◌}
 use mathlib.Core.Bool.{Bool, true, false}
 use mathlib.Core.List.{List}
@@ -13,12 +14,10 @@ use Rattle.pause.specs.declared.Pause.{Pause}
 use Rattle.refusal.specs.Refusals.{alone}
 use Rattle.refusal.specs.declared.Refusal.{Refusal}
 use Rattle.verdict.specs.Verdict.{verdict_of}
-use Rattle.verdict.specs.declared.Answer.{Answer}
-use Rattle.verdict.specs.declared.Answer.TheVariants.{Accepted, Broken}
+use Rattle.verdict.specs.Answers.{Answer}
 use Rattle.supply.specs.Covered.{summed}
 use Rattle.supply.specs.Steps.{State, after, steps_of, lasting_by, Counted, counted_by, counted_at, counted_of}
 use Rattle.supply.specs.Supply.{lasting_of, lasting_in, refused_by, judged_of, passed_on}
-use Rattle.supply.specs.declared.Supply.TheVariants.{Lasts, Refused}
 use Rattle.supply.proofs.Covering.{summed_plus, summed_le, Walked, walk_begins, lasting_short, lasting_long}
 use Rattle.supply.proofs.Stepping.{days_fit, days_none, days_at, stepped, after_keeps, after_ends}
 
@@ -96,14 +95,14 @@ module _ (p : List ℕ) (start pack choice : ℕ) (pausesOut : Bool) (ps : List 
   counted_answer = by_verdict (verdict_of p)
     where
       by_verdict : (a : Answer) → (counted_at a (counted_by p start pack choice pausesOut ps)).answer ≡ passed_on a (judged_of p start pack choice pausesOut ps)
-      by_verdict (Accepted n) = counted_by_lem
-      by_verdict (Broken r) = refl
+      by_verdict (Ok n) = counted_by_lem
+      by_verdict (Err r) = refl
 
   -- what holds of each refusal, which has no steps, and of the state after the last step holds of the answer and its count
-  module _ (P : Counted → Type 0) (refused : (r : Refusal) → P (record { answer = Refused r; count = 0 }))
+  module _ (P : Counted → Type 0) (refused : (r : Refusal) → P (record { answer = Err r; count = 0 }))
       (lasts :
       let s = steps_of choice p ps start (stop_day choice p) pack in
-      P (record { answer = Lasts (lasting_by start (stop_day choice p) s); count = s.count })) where
+      P (record { answer = Ok (lasting_by start (stop_day choice p) s); count = s.count })) where
     -- once the plan is accepted
     holds_by : P (counted_by p start pack choice pausesOut ps)
     unfolding counted_by
@@ -118,8 +117,8 @@ module _ (p : List ℕ) (start pack choice : ℕ) (pausesOut : Bool) (ps : List 
     counted_holds = by_verdict (verdict_of p)
       where
         by_verdict : (a : Answer) → P (counted_at a (counted_by p start pack choice pausesOut ps))
-        by_verdict (Accepted n) = holds_by
-        by_verdict (Broken r) = refused r
+        by_verdict (Ok n) = holds_by
+        by_verdict (Err r) = refused r
 
   -- so there are no more steps than covered days
   pub counted_days : (counted_of p start pack choice pausesOut ps).count ≤ (lasting_in (counted_of p start pack choice pausesOut ps).answer).days

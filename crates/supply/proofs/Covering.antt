@@ -8,7 +8,7 @@ use native.Mathlib.Nat.{eq-or-lt_of_le}
 use native.Mathlib.Omega.{arith}
 use lib.Dec.{eqb, ltb}
 use borrow.Author.Tests.{lt-ltb, le-ltb, ltb-true, ltb-false}
-use Rattle.below.proofs.Search.{NoneBelow, none_zero, none_more, first_is, first_end, first_facts}
+use Rattle.below.proofs.Search.{NoneBelow, none_zero, first_is, first_end, first_facts}
 use Rattle.below.proofs.Tests.{le_or_lt}
 use Rattle.below.proofs.Total.{sum_zero, sum_more, sum_plus, sum_same}
 use Rattle.day.specs.Days.{last_number, open_mark}
@@ -52,14 +52,6 @@ module _ (need : ℕ → ℕ) (start : ℕ) where
   walk_begins k pack = record { within = omega arith; sum = omega (arith, summed_zero); none = none_zero _ }
 
   module _ {k pack n rest : ℕ} (w : Walked k pack n rest) where
-    pub walk_goes_on : n < k → need (start + n) ≤ rest → Walked k pack (n + 1) (rest - need (start + n))
-    walk_goes_on l h =
-        record {
-          within = omega arith;
-          sum = omega (arith, w.sum, summed_more n);
-          none = none_more _ w.none (le-ltb pack (summed need start (n + 1)) (omega (arith, w.sum, summed_more n)));
-        }
-
     pub walk_stops : n < k → rest < need (start + n) → covered need start k pack ≡ n
     unfolding covered
     walk_stops l h =

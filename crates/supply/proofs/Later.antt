@@ -1,4 +1,5 @@
 -- Low amounts need no more than upper amounts on any day of an accepted plan, so that by them a pack lasts as long or longer. Assumes nothing.
+use Rattle.std.specs.Prelude.{Err}
 use Prim.Native.Nat.{ℕ, ◌+◌, ◌-◌, ◌≤◌, ◌<◌, min}
 use mathlib.Core.Bool.{Bool, true, false, cond}
 use mathlib.Core.List.{List, []}
@@ -30,7 +31,6 @@ use Rattle.verdict.proofs.Lowest.{row_period}
 use Rattle.supply.specs.Covered.{summed, covered}
 use Rattle.supply.specs.Supply.{lasting_of, lasting_in, own_by, refused_by, judged_of}
 use Rattle.supply.specs.declared.Lasting.{Lasting}
-use Rattle.supply.specs.declared.Supply.TheVariants.{Refused}
 use Rattle.supply.proofs.Accepted.{covers_period}
 use Rattle.supply.proofs.Covering.{supplied}
 
@@ -132,7 +132,7 @@ module _ (p : List ℕ) (start pack : ℕ) (out : Bool) (ps : List Pause) where
   one_stop_day = stop_day_same 1 2 p (λ b l t. refl)
 
   -- so both are refused alike, or both last up to that day
-  judged_both : (P : Lasting → Lasting → Type 0) → P (lasting_in (Refused (alone 0))) (lasting_in (Refused (alone 0))) →
+  judged_both : (P : Lasting → Lasting → Type 0) → P (lasting_in (Err (alone 0))) (lasting_in (Err (alone 0))) →
       ((stop : ℕ) → P (lasting_of (need_on 2 p ps) start stop pack) (lasting_of (need_on 1 p ps) start stop pack)) →
       P (lasting_in (judged_of p start pack 2 out ps)) (lasting_in (judged_of p start pack 1 out ps))
   unfolding judged_of own_by

@@ -4,6 +4,7 @@ pub mod Stepping
 pub mod Counting
 pub mod Bounding
 pub mod Range
+pub mod Ranges
 pub mod Placing
 pub mod Standing
 pub mod Accepted

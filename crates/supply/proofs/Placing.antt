@@ -11,31 +11,7 @@ use borrow.Author.Tests.{eqb-true, eqb-false, ne_eqb}
 use Rattle.below.proofs.Tests.{bool_cases}
 use Rattle.doses.specs.Doses.{position_of}
 use Rattle.plan.specs.Fields.{interval_of, first_of, header_of}
-use Rattle.supply.specs.Code.Standing.{From, lowest_at, position_behind, dose_from}
-
-lowest_none : (x : ℕ) → x ≤ 1 → lowest_at x ≡ 0
-lowest_none x l =
-    ⊎_elim
-    (λ (t : eqb x 1 ≡ true). rw t)
-    (λ (t : eqb x 1 ≡ false). let n = eqb-false x 1 t in rw t (omega (arith, n)))
-    (bool_cases (eqb x 1))
-
-module _ (p : List ℕ) (b : ℕ) {n x : ℕ} where
-  -- those of the first position are the first
-  pub from_first : x ≤ 1 → From p b n (lowest_at x) 0
-  from_first l =
-      rw (lowest_none x l)
-      (record { within = omega arith; before = λ i h. absurd (omega arith); behind = λ i h m. omega arith })
-
--- so the doses of the position behind are where those of this one end, or the first
-pub from_next : {p : List ℕ} {b n j x : ℕ} (k : ℕ) → From p b n (x + 1) j → 0 < x → From p b n (lowest_at (position_behind k x)) (dose_from (position_behind k x) j)
-from_next {p} {b} {n} {j} {x} k f l =
-    ⊎_elim
-    (λ (t : eqb x k ≡ true). rw t (from_first p b {n = n} {x = 1} (omega arith)))
-    (λ (t : eqb x k ≡ false).
-    let e : eqb (x + 1) 1 ≡ false = ne_eqb (x + 1) 1 (λ z. omega arith) in
-    rw (t, e) f)
-    (bool_cases (eqb x k))
+use Rattle.supply.specs.Code.Standing.{position_behind}
 
 -- no day has position 0
 pub position_some : (r : List ℕ) (d : ℕ) → 0 < position_of (header_of r) d
@@ -87,10 +63,3 @@ position_behind_lem r d l =
     let n = eqb-false (interval_of r) 0 t in
     rw t (behind_mod (d - first_of r) (interval_of r) (omega (arith, n))))
     (bool_cases (eqb (interval_of r) 0)))
-
-pub behind_some : (k x : ℕ) → 0 < position_behind k x
-behind_some k x =
-    ⊎_elim
-    (λ (t : eqb x k ≡ true). rw t (omega arith))
-    (λ (t : eqb x k ≡ false). rw t (omega arith))
-    (bool_cases (eqb x k))

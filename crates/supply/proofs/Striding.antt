@@ -1,10 +1,10 @@
 -- What the step that is due takes is what the definition says: a block of as many whole rounds as may be taken, or a day. Assumes nothing.
-use Prim.Native.Nat.{ℕ, ◌+◌, ◌-◌, ◌*◌, ◌/◌, ◌≤◌, ◌<◌, min}
+use Prim.Native.Nat.{ℕ, ◌+◌, ◌-◌, ◌*◌, ◌≤◌, ◌<◌}
 use mathlib.Core.Bool.{Bool, true, false, cond, not}
 use mathlib.Core.List.{List}
 use mathlib.Core.Logic.{◌⊎◌, inl, inr, ⊎_elim}
 use mathlib.Core.Path.{◌≡◌, refl, sym, ap, ◌∙◌}
-use native.Mathlib.Nat.{eq-or-lt_of_le, suc-mul, mul-zero, mul-pos, mul-le-mul_right, le-mul_of_pos_right, div-mul-le_self, lt-div-mul-add}
+use native.Mathlib.Nat.{eq-or-lt_of_le, mul-zero, mul-pos, mul-le-mul_right, le-mul_of_pos_right}
 use native.Mathlib.Omega.{arith}
 use lib.Dec.{leb, ltb}
 use borrow.Author.Tests.{ltb-true, le-leb, lt-leb}
@@ -33,42 +33,6 @@ use Rattle.supply.proofs.WholeRounds.{block_need}
 -- of n whole things m are no more
 fewer : {m n : ℕ} (k : ℕ) → m ≤ n → m * k ≤ n * k
 fewer k l = mul-le-mul_right k l
-
--- ---- the most rounds, by division
-module _ (k r room rest : ℕ) where
-  pub most_none : (room < k) ⊎ (rest < r) → Most k r room rest 0
-  most_none h =
-      record {
-        fits = omega arith;
-        paid = omega arith;
-        more = λ l. ⊎_elim (λ (m : room < k). absurd (omega arith)) (λ (m : rest < r). omega arith) h;
-      }
-
-  -- as many as there is room for, if the rest has them
-  pub most_room : 0 < k → {n : ℕ} → n ≡ room / k → n * r ≤ rest → Most k r room rest n
-  most_room i {n} e paid =
-      record {
-        fits = rw e (div-mul-le_self room k);
-        paid = paid;
-        more = λ l. absurd (let z : room < n * k + k = rw e (lt-div-mul-add {a = room} {b = k} i) in omega (arith, suc-mul n k));
-      }
-
-  -- as many as the rest has, if there is room for them
-  pub most_rest : 0 < r → {n : ℕ} → n ≡ rest / r → n * k ≤ room → Most k r room rest n
-  most_rest i {n} e fits =
-      record {
-        fits = fits;
-        paid = rw e (div-mul-le_self rest r);
-        more = λ l. let z : rest < n * r + r = rw e (lt-div-mul-add {a = rest} {b = r} i) in omega (arith, suc-mul n r);
-      }
-
-  -- the lesser of the two
-  pub most_least : 0 < k → 0 < r → {n : ℕ} → n ≡ min (room / k) (rest / r) → Most k r room rest n
-  most_least i j {n} e =
-      ⊎_elim
-      (λ (l : room / k ≤ rest / r). most_room i (omega arith) (omega (arith, fewer {m = n} {n = rest / r} r (omega arith), div-mul-le_self rest r)))
-      (λ (l : rest / r < room / k). most_rest j (omega arith) (omega (arith, fewer {m = n} {n = room / k} k (omega arith), div-mul-le_self room k)))
-      (le_or_lt (room / k) (rest / r))
 
 module _ (choice : ℕ) (p : List ℕ) (w : Walk) (g : Able choice p w) (s : Sight) (reached : w.day ≤ s.until) where
   -- the rounds of the day

@@ -1,44 +1,30 @@
 -- What one walk over the blocks says of a day: which periods have it, and up to which day the days are one period's alone. Assumes nothing.
-use Prim.Native.Nat.{ℕ, ◌+◌, ◌-◌, ◌≤◌, ◌<◌, min}
-use mathlib.Core.Bool.{Bool, true, false, cond, not, ◌&&◌}
+use Prim.Native.Nat.{ℕ, ◌+◌, ◌≤◌, ◌<◌, min}
+use mathlib.Core.Bool.{Bool, true, false, cond, not}
 use mathlib.Core.List.{List}
 use mathlib.Core.Logic.{⊎_elim}
-use mathlib.Core.Path.{◌≡◌, refl, sym, ◌∙◌}
+use mathlib.Core.Path.{◌≡◌, refl, sym, ap, ◌∙◌}
 use native.Mathlib.Omega.{arith}
 use lib.Dec.{eqb, ltb}
 use borrow.Author.Count.{below_more}
-use borrow.Author.Tests.{ne_eqb, lt-ltb, le-ltb, le-leb, ltb-true, not-true}
+use borrow.Author.Tests.{ne_eqb, lt-ltb, le-ltb, le-leb, not-true}
 use Rattle.below.proofs.Search.{any_not, any_none, any_hit}
-use Rattle.below.proofs.Tests.{bool_cases, and_both, and_false, not_true_false, true_not_false, le_or_lt}
+use Rattle.below.proofs.Tests.{and_both, and_false, not_true_false, true_not_false, le_or_lt}
 use Rattle.day.specs.Days.{open_mark}
 use Rattle.doses.specs.Doses.{covers}
 use Rattle.plan.specs.Fields.{first_of, last_of}
 use Rattle.plan.specs.Periods.{blocks_of, block_at, is_period}
 use Rattle.supply.specs.Steps.{is_chosen, has_other, is_alone}
-use Rattle.supply.specs.Code.Standing.{Orderly, IsAt, Next, InBoth, Reach, Rounded, rounds_of, rounds_on, Steady}
-use Rattle.supply.specs.Code.Surveying.{Flag, FirstTwo, Clear, Surveyed, with_later, with_period}
-use Rattle.supply.specs.declared.place.Candidate.{Candidate}
-use Rattle.supply.specs.declared.rounds.Round.{Round}
+use Rattle.supply.specs.Code.Standing.{Orderly, Next, Reach, Rounded, rounds_on, Steady}
+use Rattle.supply.specs.Code.Surveying.{Flag, FirstTwo, Clear, Surveyed, with_period}
+use Rattle.supply.specs.declared.place.Period.{Period}
+use Rattle.std.specs.Prelude.{Option, Some, None}
 use Rattle.supply.specs.declared.survey.Survey.{Survey}
 use Rattle.supply.proofs.Accepted.{covers_period}
-use Rattle.supply.proofs.Clearing.{three, RoundsOf, is_in, covers_span, covers_all, covers_past, covers_ahead, one_within, other_within, alone_one, alone_other, rounded_one, rounded_other, rounded_none}
+use Rattle.supply.proofs.Clearing.{FreeOn, is_in, covers_span, covers_all, covers_past}
 
 -- ---- the first two that pass a test
 module _ {test : ℕ → Bool} {end : ℕ} where
-  two_none : FirstTwo test end 0 end (end + 1)
-  two_none =
-      record {
-        before = λ k l. absurd (omega arith);
-        here = λ l. absurd (omega arith);
-        between = λ k l. absurd (omega arith);
-        there = λ l. absurd (omega arith);
-        apart = omega arith;
-        first_past = λ l. omega arith;
-        second_past = λ l. omega arith;
-        first_low = omega arith;
-        second_low = omega arith;
-      }
-
   module _ {n a b : ℕ} (w : FirstTwo test end n a b) (l : n < end) where
     first_not : (a ≡ n → ⊥)
     first_not e = omega (arith, w.first_past (omega arith))
@@ -154,49 +140,10 @@ module _ {choice : ℕ} {p : List ℕ} {d n u : ℕ} (w : Clear choice p d n u) 
         next = λ l. let k = w.next l in (k.0, omega (arith, k.1), k.2, k.3, k.4);
       }
 
-  -- one that begins later
-  clear_later : is_period p n ≡ true → is_chosen choice p n ≡ true → d < first_of (block_at p n) → Clear choice p d (n + 1) (min u (first_of (block_at p n) - 1))
-  clear_later x y z =
-      record {
-        reached = omega (arith, w.reached);
-        ahead = below_more (λ k. is_period p k ≡ true → is_chosen choice p k ≡ true → d < first_of (block_at p k) → min u (first_of (block_at p n) - 1) < first_of (block_at p k)) n (λ k l f g h. omega (arith, w.ahead k l f g h)) (λ f g h. omega arith);
-        next =
-            λ l.
-            ⊎_elim
-            (λ (h : u ≤ first_of (block_at p n) - 1). let k = w.next (omega arith) in (k.0, omega (arith, k.1), k.2, k.3, omega (arith, k.4)))
-            (λ (h : first_of (block_at p n) - 1 < u). (n, omega arith, x, y, omega arith))
-            (le_or_lt u (first_of (block_at p n) - 1));
-      }
-
--- ---- the survey
--- no block yet
-pub survey_begin : {choice : ℕ} {p : List ℕ} {d u n m : ℕ} → d ≤ u → u ≡ open_mark → n ≡ blocks_of p → m ≡ n + 1 → Surveyed choice p d 0 (record { first = n; second = m; one = false; other = false; until = u; clear = u })
-survey_begin {p = p} {d} l o e f =
-    record {
-      reached = l;
-      steady = λ k h. absurd (omega arith);
-      two = rw (f, e) two_none;
-      one = record { is = λ h. absurd (omega arith); none = λ h. refl };
-      other = record { is = λ h. absurd (omega arith); none = λ h. refl };
-      clear = record { reached = l; ahead = λ k h. absurd (omega arith); next = λ h. absurd (omega arith) };
-    }
-
 module _ {choice : ℕ} {p : List ℕ} {d n : ℕ} {s : Survey} (w : Surveyed choice p d n s) (l : n < blocks_of p) where
   -- what is the same on each day stays the same up to an earlier one
   steady_more : {v : ℕ} → v ≤ s.until → Steady (λ e. covers p e n) d v → (k : ℕ) → k < n + 1 → Steady (λ e. covers p e k) d v
   steady_more {v} h f = below_more (λ k. Steady (λ e. covers p e k) d v) n (λ k m e i j. w.steady k m e i (omega arith)) f
-
-  -- no period begins at block n, or it is over
-  pub survey_none : is_period p n ≡ false → Surveyed choice p d (n + 1) s
-  survey_none f =
-      record {
-        reached = w.reached;
-        steady = steady_more (omega arith) (λ e i j. rw f);
-        two = two_skip w.two l (rw f);
-        one = flag_skip w.one (first_not w.two l);
-        other = flag_skip w.other (second_not w.two l);
-        clear = clear_skip w.clear (λ x. absurd (true_not_false x f));
-      }
 
   pub survey_past : first_of (block_at p n) ≤ d → last_of (block_at p n) < d → Surveyed choice p d (n + 1) s
   survey_past g h =
@@ -207,23 +154,6 @@ module _ {choice : ℕ} {p : List ℕ} {d n : ℕ} {s : Survey} (w : Surveyed ch
         one = flag_skip w.one (first_not w.two l);
         other = flag_skip w.other (second_not w.two l);
         clear = clear_skip w.clear (λ x y z. omega arith);
-      }
-
-  -- it begins later
-  pub survey_later : {chosen : Bool} {first : ℕ} → is_period p n ≡ true → chosen ≡ is_chosen choice p n → first ≡ first_of (block_at p n) → d < first → Surveyed choice p d (n + 1) (with_later s chosen first)
-  survey_later {chosen} {first} t c e h =
-      let out = covers_ahead p d n (omega arith) in
-      record {
-        reached = omega (arith, w.reached);
-        steady = steady_more (omega arith) (λ x i j. covers_ahead p x n (omega arith) ∙ sym out);
-        two = two_skip w.two l out;
-        one = flag_skip w.one (first_not w.two l);
-        other = flag_skip w.other (second_not w.two l);
-        clear =
-            ⊎_elim
-            (λ (q : is_chosen choice p n ≡ true). rw (c, q, e) (clear_later w.clear t q (omega arith)))
-            (λ (q : is_chosen choice p n ≡ false). rw (c, q) (clear_skip w.clear (λ x y. absurd (true_not_false y q))))
-            (bool_cases (is_chosen choice p n));
       }
 
   -- it has the day
@@ -239,10 +169,6 @@ module _ {choice : ℕ} {p : List ℕ} {d n : ℕ} {s : Survey} (w : Surveyed ch
         clear = clear_skip w.clear (λ x y z. omega arith);
       }
 
--- ---- what it says once all blocks are gone through
-pub survey_end : {choice : ℕ} {p : List ℕ} {d n : ℕ} {s : Survey} → n ≡ blocks_of p → Surveyed choice p d n s → Surveyed choice p d (blocks_of p) s
-survey_end e w = rw e at w
-
 module _ {choice : ℕ} {p : List ℕ} {d : ℕ} {s : Survey} (w : Surveyed choice p d (blocks_of p) s) where
   pub survey_first : Next p d 0 s.first
   survey_first =
@@ -255,9 +181,6 @@ module _ {choice : ℕ} {p : List ℕ} {d : ℕ} {s : Survey} (w : Surveyed choi
         before = λ k l h. w.two.between k (omega (arith, w.two.second_low)) (omega arith) h;
         here = w.two.there;
       }
-
-  pub survey_both : {one other : Candidate} → IsAt choice p s.first one → IsAt choice p s.second other → InBoth choice p d one other
-  survey_both x y = record { b = s.first; c = s.second; first = survey_first; second = survey_second; one_is = x; other_is = y }
 
 -- up to which day the days are alone in a period, as day d is
 module _ {choice : ℕ} {p : List ℕ} {d : ℕ} {s : Survey} (o : Orderly choice p) (w : Surveyed choice p d (blocks_of p) s) (b : ℕ) (l : b < blocks_of p) (alone : is_alone choice p b d ≡ true) where
@@ -308,31 +231,11 @@ module _ {choice : ℕ} {p : List ℕ} {d : ℕ} {s : Survey} (o : Orderly choic
       }
 
 -- ---- the rounds that may be taken on a day
-module _ (choice : ℕ) (p : List ℕ) (o : Orderly choice p) (d : ℕ) {one other : Candidate} (x : InBoth choice p d one other) {s : Survey} (w : Surveyed choice p d (blocks_of p) s) where
-  of_one : one.any ≡ true → other.chosen ≡ false → RoundsOf choice p d one (rounds_of choice p s.clear one)
-  of_one a f =
-      let l = one_within choice p o d x a in
-      let e = (x.one_is.block l).1 in
-      (refl, refl, clear_reach o w one.b (rw e l) (rw e (alone_one choice p o d x l f)) refl)
-
-  of_other : other.any ≡ true → one.chosen ≡ false → RoundsOf choice p d other (rounds_of choice p s.clear other)
-  of_other a f =
-      let l = other_within choice p o d x a in
-      let e = (x.other_is.block l).1 in
-      (refl, refl, clear_reach o w other.b (rw e l) (rw e (alone_other choice p o d x l f)) refl)
-
-  pub rounded_on : {r : Round} → r ≡ rounds_on choice p s.clear one other → Rounded choice p d r
-  rounded_on e =
-      rw e
-      (⊎_elim
-      (λ (a : ((one.any && ltb 0 one.interval) && not other.chosen) ≡ true).
-      let t = three one.any (ltb 0 one.interval) other.chosen refl a in
-      rw a (rounded_one choice p o d x t.0 (ltb-true _ _ t.1) t.2 (of_one t.0 t.2)))
-      (λ (a : ((one.any && ltb 0 one.interval) && not other.chosen) ≡ false).
-      ⊎_elim
-      (λ (b : ((other.any && ltb 0 other.interval) && not one.chosen) ≡ true).
-      let t = three other.any (ltb 0 other.interval) one.chosen refl b in
-      rw (a, b) (rounded_other choice p o d x a t.0 (ltb-true _ _ t.1) t.2 (of_other t.0 t.2)))
-      (λ (b : ((other.any && ltb 0 other.interval) && not one.chosen) ≡ false). rw (a, b) (rounded_none choice p o d x refl a b))
-      (bool_cases ((other.any && ltb 0 other.interval) && not one.chosen)))
-      (bool_cases ((one.any && ltb 0 one.interval) && not other.chosen)))
+pub rounded_on : (choice : ℕ) (p : List ℕ) → Orderly choice p → (d : ℕ) (t : Option Period) → FreeOn choice p d t → {s : Survey} → Surveyed choice p d (blocks_of p) s → Rounded choice p d (rounds_on choice p s.clear t)
+rounded_on choice p o d None f w = record { interval_is = rw f (sym o.ends); need_is = λ i. absurd (omega arith); reach = λ i. absurd (omega arith) }
+rounded_on choice p o d (Some t) f w =
+    record {
+      interval_is = rw f.on (ap (λ (x : Period). x.interval) f.is);
+      need_is = λ i. rw f.on;
+      reach = λ i. rw f.on (clear_reach o w t.b f.within f.alone refl);
+    }

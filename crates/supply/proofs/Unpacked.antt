@@ -1,21 +1,28 @@
 -- The records that the C calls' bytes are unpacked to answer as the bytes do. Assumes nothing.
-use Prim.Native.Nat.{ℕ, ◌%◌}
+use Prim.Native.Nat.{ℕ, ◌%◌, ◌≤◌}
 use mathlib.Core.Bool.{Bool, true, false, not, ◌||◌}
 use mathlib.Core.List.{List}
 use mathlib.Core.Logic.{⊎_elim}
 use mathlib.Core.Path.{◌≡◌, ap, ◌∙◌}
 use lib.Dec.{eqb, ltb}
-use lib.ListN.{length}
+use lib.ListN.{length, take}
 use Rattle.below.proofs.Tests.{bool_cases}
-use Rattle.pause.proofs.Lists.{lent_in, lent_out}
-use Rattle.pause.specs.Pauses.{are_out, pauses_in, lent_of}
+use Rattle.pause.proofs.Lists.{length_first, front_of_first, lent_few, lent_in, lent_out}
+use Rattle.pause.specs.Pauses.{are_out, pauses_in, first_of, lent_of}
 use Rattle.pause.specs.declared.Pause.{Pause}
 use Rattle.verdict.specs.Verdict.{verdict_of}
 use Rattle.supply.specs.Dates.{is_ranging, is_needed, date_by, set_of, set_by, dates_of, packed_dates_of}
 use Rattle.supply.specs.declared.Dates.{Dates}
-use Rattle.supply.specs.declared.Supply.{Supply}
+use Rattle.supply.specs.Answers.{Supply}
 use Rattle.supply.specs.Supply.{asked_by, judged_of, passed_on, lasting_in, supply_of, packed_supply_of}
 use Rattle.supply.proofs.Sets.{set_same}
+
+-- the records are as many as the array has room for, and those at its front are the list that is lent
+pub lent_within : (s : List ℕ) → length (lent_of s) ≤ length (first_of 32 (lent_of s))
+lent_within s = rw (length_first (lent_of s) 32) (lent_few s)
+
+pub lent_records : (s : List ℕ) → take (length (lent_of s)) (first_of 32 (lent_of s)) ≡ lent_of s
+lent_records s = front_of_first 32 (lent_of s) (lent_few s)
 
 module _ (p : List ℕ) (start pack : ℕ) where
   -- where 20 or 21 is given, the pauses are not looked at

@@ -1,7 +1,8 @@
 -- The walk by steps: that a step of the code is one of the definition, what holds at each turn of the loop, and that what it ends in is the
 -- answer. Assumes nothing.
+use Rattle.std.specs.Prelude.{Ok}
 use Prim.Native.Nat.{ℕ, ◌+◌, ◌-◌, ◌≤◌, ◌<◌}
-use mathlib.Core.Bool.{Bool, true, false}
+use mathlib.Core.Bool.{true, false}
 use mathlib.Core.List.{List}
 use mathlib.Core.Logic.{⊎_elim}
 use mathlib.Core.Path.{◌≡◌, refl, sym, ap, ◌∙◌}
@@ -14,14 +15,12 @@ use Rattle.pause.proofs.InSight.{sight_reached, sight_steady, sight_ends}
 use Rattle.pause.specs.Sight.{sight_of}
 use Rattle.pause.specs.declared.Pause.{Pause}
 use Rattle.pause.specs.declared.Sight.{Sight}
-use Rattle.refusal.specs.declared.Refusal.{Refusal}
 use Rattle.supply.specs.Covered.{summed}
 use Rattle.supply.specs.Steps.{State, days_from, after, steps_of, lasting_by}
 use Rattle.supply.specs.Supply.{lasting_of}
-use Rattle.supply.specs.Code.Asking.{answered_by, Begun}
-use Rattle.supply.specs.Code.Walking.{Looking, Going, Able, Stood, Ready, Seen, Advanced, state_of, outcome_of, left, Onward, Went, lasting_at, Ended, ended_of}
+use Rattle.supply.specs.Code.Asking.{answered_by, Begins}
+use Rattle.supply.specs.Code.Walking.{Looking, Going, Able, Stood, Ready, Seen, Advanced, state_of, outcome_of, left, Onward, Went, lasting_at, Ended}
 use Rattle.supply.specs.declared.Lasting.{Lasting}
-use Rattle.supply.specs.declared.Supply.TheVariants.{Lasts, Refused}
 use Rattle.supply.specs.declared.ask.Asked.{Asked}
 use Rattle.supply.specs.declared.taking.Stride.{Stride}
 use Rattle.supply.specs.declared.walk.Walk.{Walk}
@@ -61,7 +60,7 @@ module _ (choice : ℕ) (p : List ℕ) (s : Sight) (w r : Walk) (tells : Tells c
 
   -- there is none: the walk is over
   pub went_over : ((ps : List Pause) → Seen ps w.day s → days_from choice p ps w.stop w.day w.rest ≡ 0) →
-      r ≡ record { refused = w.refused; refusal = w.refusal; going = false; chosen = w.chosen; start = w.start; stop = w.stop; day = w.day; count = w.count; rest = w.rest; today = w.today } → Went choice p s w r
+      r ≡ record { going = false; start = w.start; stop = w.stop; day = w.day; count = w.count; chosen = w.chosen; rest = w.rest; today = w.today } → Went choice p s w r
   went_over none same =
       rw same
       (record {
@@ -70,8 +69,6 @@ module _ (choice : ℕ) (p : List ℕ) (s : Sight) (w r : Walk) (tells : Tells c
         onward =
             λ ps seen.
             record {
-              refused_is = refl;
-              refusal_is = refl;
               start_is = refl;
               stop_is = refl;
               begun = omega (arith, g.counted);
@@ -119,8 +116,6 @@ module _ (choice : ℕ) (p : List ℕ) (s : Sight) (w r : Walk) (tells : Tells c
       unfolding after
       onward =
           record {
-            refused_is = a.refused_is;
-            refusal_is = a.refusal_is;
             start_is = a.start_is;
             stop_is = a.stop_is;
             begun = omega (arith, a.day_is, a.start_is, g.counted);
@@ -160,8 +155,6 @@ went_from k a =
           λ ps seen.
           let x = a.onward ps (rw k.day_is seen) in
           record {
-            refused_is = x.refused_is ∙ k.refused_is;
-            refusal_is = x.refusal_is ∙ k.refusal_is;
             start_is = x.start_is ∙ k.start_is;
             stop_is = x.stop_is ∙ k.stop_is;
             begun = x.begun;
@@ -173,49 +166,35 @@ went_from k a =
 module _ (choice : ℕ) (p : List ℕ) (ps : List Pause) where
   -- ---- what holds of the walk w at each turn of the loop, where it began as w₀
   pub record Inv (w₀ w : Walk) : Type 0 where
-    pub refused_is : w.refused ≡ w₀.refused
-    pub refusal_is : w.refusal ≡ w₀.refusal
     pub start_is : w.start ≡ w₀.start
     pub stop_is : w.stop ≡ w₀.stop
-    pub over : w₀.refused ≡ true → w.going ≡ false
-    pub begun : w₀.refused ≡ false → w.start ≤ w.day
+    pub begun : w.start ≤ w.day
     pub at : w.going ≡ true → Going choice p w
-    pub outcome_is : w₀.refused ≡ false → outcome_of choice p ps w ≡ steps_of choice p ps w₀.start w₀.stop w₀.rest
-    pub done : w₀.refused ≡ false → w.going ≡ false → outcome_of choice p ps w ≡ state_of w
+    pub outcome_is : outcome_of choice p ps w ≡ steps_of choice p ps w₀.start w₀.stop w₀.rest
+    pub done : w.going ≡ false → outcome_of choice p ps w ≡ state_of w
 
   module _ (w₀ : Walk) where
-    -- a walk that goes is not refused
-    unrefused : {b : Bool} → (w₀.refused ≡ true → b ≡ false) → b ≡ true → w₀.refused ≡ false
-    unrefused o g = ⊎_elim (λ (e : w₀.refused ≡ true). absurd (true_not_false g (o e))) (λ e. e) (bool_cases w₀.refused)
-
     pub begins : Ready choice p w₀ → Inv w₀ w₀
     begins r =
         record {
-          refused_is = refl;
-          refusal_is = refl;
           start_is = refl;
           stop_is = refl;
-          over = r.over;
-          begun = λ n. let z = (r.at n).looks.counted in omega arith;
-          at = λ g. r.at (unrefused r.over g);
-          outcome_is = λ n. let f = r.first n in let z : w₀.day - w₀.start ≡ 0 = omega (arith, f.0) in rw (z, f.0, f.1);
-          done = λ n g. absurd (true_not_false (r.goes n) g);
+          begun = omega (arith, r.day_is);
+          at = λ g. r.at;
+          outcome_is = let z : w₀.day - w₀.start ≡ 0 = omega (arith, r.day_is) in rw (z, r.day_is, r.count_is);
+          done = λ g. absurd (true_not_false r.at.looks.on g);
         }
 
-    pub turns : {w r : Walk} {s : Sight} → Inv w₀ w → w.going ≡ true → Seen ps w.day s → Went choice p s w r → Inv w₀ r
-    turns i going seen t =
+    pub turns : {w r : Walk} {s : Sight} → Inv w₀ w → Seen ps w.day s → Went choice p s w r → Inv w₀ r
+    turns i seen t =
         let o = t.onward ps seen in
-        let fine = unrefused i.over going in
         record {
-          refused_is = o.refused_is ∙ i.refused_is;
-          refusal_is = o.refusal_is ∙ i.refusal_is;
           start_is = o.start_is ∙ i.start_is;
           stop_is = o.stop_is ∙ i.stop_is;
-          over = λ e. absurd (true_not_false e fine);
-          begun = λ e. o.begun;
+          begun = o.begun;
           at = t.at;
-          outcome_is = λ e. o.outcome_is ∙ i.outcome_is e;
-          done = λ e. o.over;
+          outcome_is = o.outcome_is ∙ i.outcome_is;
+          done = o.over;
         }
 
     -- no step goes back, so that what is in sight of one day serves the next
@@ -227,35 +206,20 @@ module _ (choice : ℕ) (p : List ℕ) (ps : List Pause) where
     pub ends : {w : Walk} → Inv w₀ w → w.going ≡ false → Ended choice p ps w₀ w
     ends i g =
         record {
-          refused_is = i.refused_is;
-          refusal_is = i.refusal_is;
           begun = i.begun;
           start_is = i.start_is;
           stop_is = i.stop_is;
-          state_is = λ e. sym (i.done e g) ∙ i.outcome_is e;
+          state_is = sym (i.done g) ∙ i.outcome_is;
         }
 
--- ---- the answer
-module _ (p : List ℕ) (a : Asked) (choice : ℕ) (ps : List Pause) (b w : Walk) (begun : Begun p a choice b) (over : Ended choice p ps b w) where
-  -- what the walk says is what the state after the last step says, which is the daily walk's answer
-  lasting_is : b.refused ≡ false → lasting_at w ≡ lasting_of (need_on choice p ps) b.start b.stop b.rest
-  lasting_is e =
-      let l = over.begun e in
+-- ---- the answer: what the walk says is what the state after the last step says, which is the daily walk's answer
+module _ (p : List ℕ) (a : Asked) (choice : ℕ) (ps : List Pause) (b w : Walk) (begins_with : Begins p a choice b) (over : Ended choice p ps b w) where
+  lasting_is : lasting_at w ≡ lasting_of (need_on choice p ps) b.start b.stop b.rest
+  lasting_is =
+      let l = over.begun in
       let z : w.start + (w.day - w.start) ≡ w.day = omega arith in
       let q : lasting_at w ≡ lasting_by w.start w.stop (state_of w) = rw z in
-      q ∙ ap (λ (s : State). lasting_by w.start w.stop s) (over.state_is e) ∙ rw (over.start_is, over.stop_is) (steps_last choice p ps b.start b.stop b.rest)
+      q ∙ ap (λ (s : State). lasting_by w.start w.stop s) over.state_is ∙ rw (over.start_is, over.stop_is) (steps_last choice p ps b.start b.stop b.rest)
 
-  pub answers : ended_of w ≡ answered_by p a choice ps
-  answers =
-      ⊎_elim
-      (λ (e : b.refused ≡ true).
-      let t : w.refused ≡ true = over.refused_is ∙ e in
-      rw t (ap (λ (x : Refusal). Refused x) over.refusal_is ∙ sym (begun.refused_is e ps)))
-      (λ (e : b.refused ≡ false).
-      let t : w.refused ≡ false = over.refused_is ∙ e in
-      rw t (ap (λ (x : Lasting). Lasts x) (lasting_is e) ∙ sym (begun.lasts_is e ps)))
-      (bool_cases b.refused)
-
--- what `ended` asks
-pub ended_asks : (choice : ℕ) (p : List ℕ) (ps : List Pause) (b w : Walk) → Ended choice p ps b w → w.refused ≡ false → w.start ≤ w.day
-ended_asks choice p ps b w over e = over.begun (sym over.refused_is ∙ e)
+  pub answers : Ok (lasting_at w) ≡ answered_by p a choice ps
+  answers = ap (λ (x : Lasting). Ok x) lasting_is ∙ sym (begins_with.lasts_is ps)

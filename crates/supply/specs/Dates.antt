@@ -1,5 +1,5 @@
 -- Document 02, W1: "A single call gives the set" of dates that the counter wants.
-use Rattle.std.specs.Prelude.{ℕ, ◌%◌, Bool, cond, not, ◌&&◌, ◌||◌, List, eqb, leb, length}
+use Rattle.std.specs.Prelude.{ℕ, ◌%◌, Bool, cond, not, ◌&&◌, ◌||◌, List, eqb, leb, length, Err, Ok}
 use Rattle.below.specs.Below.{any_below}
 use Rattle.day.specs.Days.{open_mark}
 use Rattle.need.specs.Need.{unmarked, fixed_or_mixed, need_or_mixed}
@@ -7,16 +7,14 @@ use Rattle.pause.specs.declared.Pause.{Pause}
 use Rattle.pause.specs.Pauses.{are_out, pauses_in}
 use Rattle.plan.specs.Fields.{last_of}
 use Rattle.plan.specs.Periods.{blocks_of, block_at, is_period, doses_of, dose_in, class_of}
+use Rattle.plan.specs.declared.Class.{Class}
 use Rattle.plan.specs.declared.Dose.{Dose}
 use Rattle.refusal.specs.Refusals.{alone}
-use Rattle.refusal.specs.declared.Refusal.{Refusal}
-use Rattle.verdict.specs.declared.Answer.{Answer}
-use Rattle.verdict.specs.declared.Answer.TheVariants.{Accepted, Broken}
+use Rattle.verdict.specs.Answers.{Answer}
 use Rattle.verdict.specs.Verdict.{verdict_of}
 use Rattle.supply.specs.declared.Dates.{Dates}
-use Rattle.supply.specs.declared.DateSet.{DateSet}
-use Rattle.supply.specs.declared.DateSet.TheVariants as set
-use Rattle.supply.specs.declared.Supply.{Supply}
+use Rattle.supply.specs.Answers.{DateSet}
+use Rattle.supply.specs.Answers.{Supply}
 use Rattle.supply.specs.Supply.{asked_by, lasting_in, supply_of, packed_supply_of}
 
 -- "an unmarked interval dose"
@@ -24,7 +22,7 @@ abbrev pub is_interval : Dose → Bool
 is_interval x = unmarked x && not (eqb x.high 0)
 
 -- the period at block b, of a class that is asked for, is one "ending on or after the start"
-abbrev pub ends_from : (ℕ → Bool) → ℕ → List ℕ → ℕ → Bool
+abbrev pub ends_from : (Class → Bool) → ℕ → List ℕ → ℕ → Bool
 ends_from is_of start p b = is_period p b && is_of (class_of p b) && leb start (last_of (block_at p b))
 
 -- the period at block b has such a dose
@@ -62,20 +60,16 @@ set_of ranging needed date =
 
 -- "the set is refused by 1 to 17 and 20 to 22 only": by the verdict, by a number behind it, or not at all
 abbrev pub set_by : Answer → ℕ → Dates → DateSet
-set_by (Broken r) number x = set.Refused r
-set_by (Accepted n) number x = cond (eqb number 0) (set.Given x) (set.Refused (alone number))
+set_by (Err r) number x = Err r
+set_by (Ok n) number x = cond (eqb number 0) (Ok x) (Err (alone number))
 
 -- "all dates absent" where it is refused
 abbrev pub no_dates : Dates
 no_dates = record { end = open_mark; minimum = open_mark; maximum = open_mark; third = open_mark; fourth = open_mark }
 
 abbrev pub dates_in : DateSet → Dates
-dates_in (set.Given x) = x
-dates_in (set.Refused r) = no_dates
-
-abbrev pub refusal_in_set : DateSet → Refusal
-refusal_in_set (set.Given x) = alone 0
-refusal_in_set (set.Refused r) = r
+dates_in (Ok x) = x
+dates_in (Err r) = no_dates
 
 -- the set of a plan, a start day, a pack amount and a list of pause records
 abbrev pub dates_of : List ℕ → ℕ → ℕ → List Pause → DateSet

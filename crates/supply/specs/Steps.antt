@@ -1,6 +1,6 @@
 -- Document 02, W12: "Count the steps of a definition, a step being one day or one block of rounds". Supply is told here in such steps. What
 -- it answers is document 01's answer, and how many steps there are has its bounds: promises/specs/Rounds.antt.
-use Rattle.std.specs.Prelude.{ℕ, zero, suc, ◌+◌, ◌-◌, ◌*◌, Bool, cond, not, ◌&&◌, List, eqb, leb, ltb}
+use Rattle.std.specs.Prelude.{ℕ, zero, suc, ◌+◌, ◌-◌, ◌*◌, Bool, cond, not, ◌&&◌, List, eqb, leb, ltb, Err, Ok}
 use Rattle.below.specs.Below.{first_below, any_below, all_below}
 use Rattle.day.specs.Days.{last_number, open_mark}
 use Rattle.doses.specs.Doses.{covers}
@@ -13,11 +13,9 @@ use Rattle.refusal.specs.Refusals.{alone}
 use Rattle.supply.specs.Covered.{summed}
 use Rattle.supply.specs.Supply.{refused_by}
 use Rattle.supply.specs.declared.Lasting.{Lasting}
-use Rattle.supply.specs.declared.Supply.{Supply}
-use Rattle.supply.specs.declared.Supply.TheVariants.{Lasts, Refused}
+use Rattle.supply.specs.Answers.{Supply}
 use Rattle.verdict.specs.Verdict.{verdict_of}
-use Rattle.verdict.specs.declared.Answer.{Answer}
-use Rattle.verdict.specs.declared.Answer.TheVariants.{Accepted, Broken}
+use Rattle.verdict.specs.Answers.{Answer}
 
 -- the rest, the days that are covered, and the count of steps
 pub record State : Type 0 where
@@ -103,13 +101,13 @@ counted_by p start pack choice pausesOut ps =
     let number = refused_by start pack choice pausesOut (has_stop choice p) (stop_day choice p) in
     let s = steps_of choice p ps start (stop_day choice p) pack in
     cond (eqb number 0)
-    (record { answer = Lasts (lasting_by start (stop_day choice p) s); count = s.count })
-    (record { answer = Refused (alone number); count = 0 })
+    (record { answer = Ok (lasting_by start (stop_day choice p) s); count = s.count })
+    (record { answer = Err (alone number); count = 0 })
 
 -- "An answer is either the plan or its first broken rule": a refusal is passed on, and there are no steps
 abbrev pub counted_at : Answer → Counted → Counted
-counted_at (Accepted n) x = x
-counted_at (Broken r) x = record { answer = Refused r; count = 0 }
+counted_at (Ok n) x = x
+counted_at (Err r) x = record { answer = Err r; count = 0 }
 
 -- of a plan; `pausesOut` says that 21 is due, in its turn
 abbrev pub counted_of : List ℕ → ℕ → ℕ → ℕ → Bool → List Pause → Counted

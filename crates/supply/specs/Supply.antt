@@ -1,17 +1,14 @@
 -- The answer of supply, and its refusals.
-use Rattle.std.specs.Prelude.{ℕ, ◌+◌, ◌-◌, ◌%◌, Bool, cond, not, ◌||◌, List, eqb, ltb, length}
+use Rattle.std.specs.Prelude.{ℕ, ◌+◌, ◌-◌, ◌%◌, Bool, cond, not, ◌||◌, List, eqb, ltb, length, Err, Ok}
 use Rattle.day.specs.Days.{last_number, open_mark, is_day}
-use Rattle.refusal.specs.declared.Refusal.{Refusal}
 use Rattle.refusal.specs.Refusals.{alone}
 use Rattle.need.specs.Need.{is_choice, need_on, stop_day, has_stop}
 use Rattle.pause.specs.declared.Pause.{Pause}
 use Rattle.pause.specs.Pauses.{are_out, pauses_in}
-use Rattle.verdict.specs.declared.Answer.{Answer}
-use Rattle.verdict.specs.declared.Answer.TheVariants.{Accepted, Broken}
+use Rattle.verdict.specs.Answers.{Answer}
 use Rattle.verdict.specs.Verdict.{verdict_of}
 use Rattle.supply.specs.declared.Lasting.{Lasting}
-use Rattle.supply.specs.declared.Supply.{Supply}
-use Rattle.supply.specs.declared.Supply.TheVariants.{Lasts, Refused}
+use Rattle.supply.specs.Answers.{Supply}
 use Rattle.supply.specs.Covered.{summed, covered}
 
 -- "days covered (0 to 73,049), last covered day (open mark if none), rest, and why it stopped: 1 the next day needs more than
@@ -52,21 +49,17 @@ refused_by start pack choice pausesOut anyStop stop = asked_by start pack pauses
 unfoldable pub judged_of : List ℕ → ℕ → ℕ → ℕ → Bool → List Pause → Supply
 judged_of p start pack choice pausesOut ps =
     let number = refused_by start pack choice pausesOut (has_stop choice p) (stop_day choice p) in
-    cond (eqb number 0) (Lasts (lasting_of (need_on choice p ps) start (stop_day choice p) pack)) (Refused (alone number))
+    cond (eqb number 0) (Ok (lasting_of (need_on choice p ps) start (stop_day choice p) pack)) (Err (alone number))
 
--- document 01's number and values for either case: "Refused: 0 days, open mark, rest 0, reason 0."
-abbrev pub refusal_in : Supply → Refusal
-refusal_in (Lasts x) = alone 0
-refusal_in (Refused r) = r
-
+-- document 01's values for either case: "Refused: 0 days, open mark, rest 0, reason 0."
 abbrev pub lasting_in : Supply → Lasting
-lasting_in (Lasts x) = x
-lasting_in (Refused r) = record { days = 0; last = open_mark; rest = 0; reason = 0 }
+lasting_in (Ok x) = x
+lasting_in (Err r) = record { days = 0; last = open_mark; rest = 0; reason = 0 }
 
 -- "An answer is either the plan or its first broken rule": a refusal is passed on
 abbrev pub passed_on : Answer → Supply → Supply
-passed_on (Accepted n) s = s
-passed_on (Broken r) s = Refused r
+passed_on (Ok n) s = s
+passed_on (Err r) s = Err r
 
 -- "Input: a plan, start day, pack amount, choice .. and a list of pause records"
 abbrev pub supply_of : List ℕ → ℕ → ℕ → ℕ → List Pause → Supply

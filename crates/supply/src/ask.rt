@@ -1,93 +1,71 @@
 // What is asked, judged once, by however many choices it is then walked: the verdict, then refusals 20 to 22 in their order.
 ghost use Rattle.std.specs.Prelude.{◌≡◌};
 ghost use Rattle.supply.specs.Supply.{asked_by};
-ghost use Rattle.supply.specs.Code.Asking.{ForSupply, ForDates};
+ghost use Rattle.supply.specs.Code.Asking.{unless_given, ForSupply, ForDates};
 
 use crate::wanted::{is_needed, is_ranging};
 use day::Day;
 use need::{Told, told_by};
-use refusal::Refusal;
-use verdict::{Answer, refusal_of, verdict_with_classes};
+use refusal::{Refusal, refusal_in};
+use verdict::verdict_with_classes;
 
 // The largest pack.
 const PACK_LIMIT: u64 = 1000000000000;
 
-// Refused, whatever the choice; or a start day and a pack, and which of the plan's periods count by each choice. A set of dates does not
-// ask for every choice: for 2 only where `upper` says so, for 3 and 4 only where `needed` does.
+// A start day and a pack, and which of the plan's periods count by each choice. A set of dates does not ask for every choice: for 2 only
+// where `upper` says so, for 3 and 4 only where `needed` does.
 #[derive(Clone, Copy)]
 pub(crate) struct Asked {
-    pub refused: bool,
     pub upper: bool,
     pub needed: bool,
-    pub refusal: Refusal,
     pub start: u32,
     pub told: Told,
     pub pack: u64,
 }
 
-// Of a plan that is refused nothing is told.
-const NO_PERIODS: Told = Told {
-    fixed: 0,
-    dosed: 0,
-    needed: 0,
-};
-
-// The first of 20 to 22, 0 where there is none. `out` says that 21 is due, in its turn.
-fn asked_by(start: u32, pack: u64, out: bool) -> u8
-    ensures { result ≡ asked_by start pack out 0 }
+// The first of 20 to 22, where one is given. `out` says that 21 is due, in its turn.
+fn asked_by(start: u32, pack: u64, out: bool) -> Result<(), Refusal>
+    ensures { result ≡ unless_given (asked_by start pack out 0) tt }
 {
     if PACK_LIMIT < pack {
-        return 20;
+        return Err(Refusal::alone(20));
     }
     if out {
-        return 21;
+        return Err(Refusal::alone(21));
     }
     if !Day::new(start).is_day() {
-        return 22;
+        return Err(Refusal::alone(22));
     }
-    0
+    Ok(())
 }
 
 // For supply, by any choice.
-pub(crate) fn ask(plan: &[u8], start: u32, pack: u64, out: bool) -> Asked
+pub(crate) fn ask(plan: &[u8], start: u32, pack: u64, out: bool) -> Result<Asked, Refusal>
     ensures { ForSupply plan.now start pack out result }
 {
-    let judged = verdict_with_classes(plan);
-    let answer = judged.answer;
-    let Answer::Accepted(_) = answer else {
-        return Asked {
-            refused: true,
-            upper: true,
-            needed: true,
-            refusal: refusal_of(answer),
-            start,
-            told: NO_PERIODS,
-            pack,
-        };
+    // Kept: document 01 names let .. else for this place, and no `?`.
+    let answer = verdict_with_classes(plan);
+    let Ok(classes) = answer else {
+        return Err(refusal_in(answer));
     };
-    let classes = judged.classes;
-    let number = asked_by(start, pack, out);
-    Asked {
-        refused: number != 0,
+    asked_by(start, pack, out)?;
+    Ok(Asked {
         upper: true,
         needed: true,
-        refusal: Refusal::alone(number),
         start,
         told: told_by(plan, classes),
         pack,
-    }
+    })
 }
 
 // For the set of dates: by the choices that it has a date of.
-pub(crate) fn ask_dates(plan: &[u8], start: u32, pack: u64, out: bool) -> Asked
+pub(crate) fn ask_dates(plan: &[u8], start: u32, pack: u64, out: bool) -> Result<Asked, Refusal>
     ensures { ForDates plan.now start pack out result }
 {
-    let mut a = ask(plan, start, pack, out);
-    if a.refused {
-        return a;
-    }
-    let told = a.told;
-    a.upper = is_ranging(plan, start, told.fixed);
-    a.needed = is_needed(plan, start, told.needed);
-    a
+    let asked = ask(plan, start, pack, out)?;
+    Ok(Asked {
+        upper: is_ranging(plan, start, asked.told.fixed),
+        needed: is_needed(plan, start, asked.told.needed),
+        ..asked
+    })
 }

@@ -12,27 +12,20 @@ mod set;
 mod survey;
 mod taking;
 mod today;
-mod until;
 mod walk;
 mod wanted;
 
 pub use lent::{dates_of, supply_of};
 pub use packed::{dates_packed, supply_packed};
-use refusal::Refusal;
 
 // How far the pack lasts: days covered, the last of them, what is left, and why it ends.
+// Kept: `reason` is a number, since C gets it as one, and `lasting_of` and `lasting_in` name 1, 2, 3 and 0 as document 01 does.
 #[derive(Clone, Copy)]
 pub struct Lasting {
     pub days: u32,
     pub last: u32,
     pub rest: u64,
     pub reason: u8,
-}
-
-#[derive(Clone, Copy)]
-pub enum Supply {
-    Lasts(Lasting),
-    Refused(Refusal),
 }
 
 // The dates that the counter wants, each the last covered day of a choice's supply, or the open mark where it is absent: one end date, or
@@ -44,10 +37,4 @@ pub struct Dates {
     pub maximum: u32,
     pub third: u32,
     pub fourth: u32,
-}
-
-#[derive(Clone, Copy)]
-pub enum DateSet {
-    Given(Dates),
-    Refused(Refusal),
 }

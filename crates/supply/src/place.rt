@@ -1,21 +1,19 @@
 // Where a day stands in a period: its position there, and what the doses of that position need. A day later the doses are gone through
 // from where the day ahead ended, so that a walk reads each dose once a round.
-ghost use Rattle.std.specs.Prelude.{◌≡◌, true, ℕ, ◌+◌, ◌≤◌, ◌<◌};
+ghost use Rattle.std.specs.Prelude.{◌≡◌, ◌+◌, ◌≤◌, ◌<◌, IfSome};
 ghost use Rattle.day.specs.Days.{last_number};
 ghost use Rattle.doses.specs.Doses.{position_of};
 ghost use Rattle.plan.specs.Fields.{interval_of, header_of};
-ghost use Rattle.plan.specs.Periods.{blocks_of, block_at, doses_of};
-ghost use Rattle.supply.specs.Code.Surveying.{Flag};
-ghost use Rattle.supply.specs.Code.Standing.{Sorted, Small, From, lowest_at, position_behind, dose_from, is_still, Placed, Moved, Stands, IsAt, InPeriod, kept_of};
+ghost use Rattle.plan.specs.Periods.{block_at, doses_of};
+ghost use Rattle.supply.specs.Code.Standing.{Sorted, Small, From, lowest_at, position_behind, dose_from, is_still, Placed, Moved, Stands, InPeriod, period_at, kept_of};
 
 use crate::position::{due_at, first_from};
 use doses::position_of;
 use plan::{block_of, doses_of, interval_of};
 
-// The period at block b, in rounds of `interval` days, has `doses` doses. Or there is none.
+// The period at block b, in rounds of `interval` days, has `doses` doses.
 #[derive(Clone, Copy)]
 pub(crate) struct Period {
-    pub any: bool,
     pub b: u8,
     pub doses: u16,
     pub interval: u32,
@@ -29,69 +27,42 @@ pub(crate) struct Place {
     pub behind: u32,
 }
 
-// No period, and a day's place in it: nothing is due.
-pub(crate) const NO_PERIOD: Period = Period {
-    any: false,
-    b: 0,
-    doses: 0,
-    interval: 0,
-};
-
+// A day's place in no period: nothing is due.
 pub(crate) const NO_PLACE: Place = Place {
     due: 0,
     position: 0,
     behind: 0,
 };
 
-// A period as the plan has it, of any class; `chosen` says that it has doses of the choice. Or there is none.
-#[derive(Clone, Copy)]
-pub(crate) struct Candidate {
-    pub any: bool,
-    pub chosen: bool,
-    pub b: u8,
-    pub doses: u16,
-    pub interval: u32,
-}
-
-// The period at block b, if there is such a block; `chosen` says whether it has doses of the choice.
-pub(crate) fn period_at(plan: &[u8], b: u8, chosen: bool) -> Candidate
-    ensures { (choice : ℕ) → Flag choice plan.now (blocks_of plan.now) b chosen → IsAt choice plan.now b result }
+// The period at block b as the plan has it, of any class, if there is such a block.
+pub(crate) fn period_at(plan: &[u8], b: u8) -> Option<Period>
+    ensures { result ≡ period_at plan.now b }
 {
-    if (b as usize) < plan.len() / 512 {
-        return Candidate {
-            any: true,
-            chosen,
+    if usize::from(b) < plan.len() / 512 {
+        return Some(Period {
             b,
             doses: doses_of(plan, b),
-            interval: interval_of(block_of(plan, b as u16)) as u32,
-        };
+            interval: interval_of(block_of(plan, u16::from(b))) as u32,
+        });
     }
-    Candidate {
-        any: false,
-        chosen: false,
-        b: 0,
-        doses: 0,
-        interval: 0,
-    }
+    None
 }
 
 // The period, if it has doses of the choice: the others need nothing.
-pub(crate) fn kept(t: Candidate) -> Period
-    ensures { result ≡ kept_of t }
+pub(crate) fn kept(t: Option<Period>, chosen: bool) -> Option<Period>
+    ensures { result ≡ kept_of t chosen }
 {
-    Period {
-        any: t.any & t.chosen,
-        b: t.b,
-        doses: t.doses,
-        interval: t.interval,
-    }
+    if chosen { t } else { None }
 }
 
 // In the period, does each day need what the one ahead of it needs, as in rounds of one day?
-pub(crate) fn is_still(t: Period) -> bool
+pub(crate) fn is_still(t: Option<Period>) -> bool
     ensures { result ≡ is_still t }
 {
-    !t.any | (t.interval == 1)
+    match t {
+        Some(t) => t.interval == 1,
+        None => true,
+    }
 }
 
 // A day's position in the period. In rounds of one day it is the first, and nothing is divided.
@@ -102,7 +73,7 @@ fn position_in(plan: &[u8], day: u32, t: Period) -> u32
     if t.interval == 1 {
         return 1;
     }
-    position_of(block_of(plan, t.b as u16), day) as u32
+    position_of(block_of(plan, u16::from(t.b)), day) as u32
 }
 
 // The dose at which those of a position begin. Those of the first begin with the period's first dose, since day number 0 counts there; the
@@ -114,7 +85,7 @@ fn dose_from(plan: &[u8], t: Period, position: u32) -> u16
     if position == 1 {
         return 0;
     }
-    first_from(plan, t.b, t.doses, position as u64)
+    first_from(plan, t.b, t.doses, position)
 }
 
 // The place at a position of the period, whose doses begin at dose `from`.
@@ -123,22 +94,22 @@ fn place_at(plan: &[u8], choice: u32, t: Period, position: u32, from: u16) -> Pl
     requires position_nonzero { (0 < position) × From plan.now t.b t.doses (lowest_at position) from }
     ensures { Placed choice plan.now t result × (result.position ≡ position) }
 {
-    let due = due_at(plan, choice, t.b, t.doses, position as u64, from);
+    let due = due_at(plan, choice, t.b, t.doses, position, from);
     Place {
         due: due.need,
         position,
-        behind: due.behind as u32,
+        behind: u32::from(due.behind),
     }
 }
 
 // The day's place in the period.
-pub(crate) fn place_on(plan: &[u8], choice: u32, day: u32, t: Period) -> Place
-    requires { (t.any ≡ true → InPeriod choice plan.now day t) × (day ≤ last_number) }
+pub(crate) fn place_on(plan: &[u8], choice: u32, day: u32, t: Option<Period>) -> Place
+    requires { IfSome t (InPeriod choice plan.now day) × (day ≤ last_number) }
     ensures { Stands choice plan.now day t result }
 {
-    if !t.any {
+    let Some(t) = t else {
         return NO_PLACE;
-    }
+    };
     let position = position_in(plan, day, t);
     let from = dose_from(plan, t, position);
     place_at(plan, choice, t, position, from)
@@ -172,13 +143,13 @@ fn doses_from(position: u32, behind: u32) -> u16
 }
 
 // The place of the day behind that of s, in the period t.
-pub(crate) fn next_place(plan: &[u8], choice: u32, t: Period, s: Place) -> Place
-    requires { (t.any ≡ true → Placed choice plan.now t s) × (t.any ≡ true → s.position ≤ last_number + 1) }
+pub(crate) fn next_place(plan: &[u8], choice: u32, t: Option<Period>, s: Place) -> Place
+    requires { IfSome t (λ t. Placed choice plan.now t s × (s.position ≤ last_number + 1)) }
     ensures { Moved choice plan.now t s result }
 {
-    if !t.any {
+    let Some(t) = t else {
         return s;
-    }
+    };
     let position = position_behind(t.interval, s.position);
     let from = doses_from(position, s.behind);
     place_at(plan, choice, t, position, from)

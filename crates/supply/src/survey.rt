@@ -5,13 +5,17 @@ ghost use Rattle.plan.specs.Periods.{blocks_of, is_period};
 ghost use Rattle.supply.specs.Steps.{is_chosen};
 ghost use Rattle.supply.specs.Code.Surveying.{Surveyed, with_later, with_period};
 
-use crate::until::{NEVER, least};
+use day::Day;
 use need::is_odd;
 use plan::{block_of, first_of, kind_of, last_of};
+
+// No change lies ahead.
+const NEVER: u32 = Day::OPEN.number;
 
 // The first two blocks whose periods have the day; where there is no such block the number lies past all blocks. `one` and `other` say
 // whether these have doses of the choice. Up to day `until` the days are in the periods that have this one, and in no others. From the day
 // behind this one up to day `clear` no period with doses of the choice begins.
+// Kept: a number past all blocks and no Option, so that one comparison tells whether a block comes first (`with_period`).
 #[derive(Clone, Copy)]
 pub(crate) struct Survey {
     pub first: u8,
@@ -28,9 +32,9 @@ fn with_later(s: Survey, chosen: bool, first: u32) -> Survey
     ensures { result ≡ with_later s chosen first }
 {
     let mut r = s;
-    r.until = least(s.until, first - 1);
+    r.until = s.until.min(first - 1);
     if chosen {
-        r.clear = least(s.clear, first - 1);
+        r.clear = s.clear.min(first - 1);
     }
     r
 }
@@ -41,7 +45,7 @@ fn with_period(s: Survey, chosen: bool, b: u8, last: u32) -> Survey
     ensures { result ≡ with_period s chosen b last }
 {
     let mut r = s;
-    r.until = least(s.until, last);
+    r.until = s.until.min(last);
     if b < s.first {
         r.first = b;
         r.one = chosen;
@@ -59,7 +63,7 @@ fn with_period(s: Survey, chosen: bool, b: u8, last: u32) -> Survey
 fn with_block(plan: &[u8], day: u32, s: Survey, chosen: bool, b: u8) -> Survey
     ensures { (choice : ℕ) → b < blocks_of plan.now → (is_period plan.now b ≡ true → chosen ≡ is_chosen choice plan.now b) → Surveyed choice plan.now day b s → Surveyed choice plan.now day (b + 1) result }
 {
-    let block = block_of(plan, b as u16);
+    let block = block_of(plan, u16::from(b));
     if kind_of(block) != 2 {
         return s;
     }
@@ -91,7 +95,7 @@ pub(crate) fn survey_of(plan: &[u8], chosen: u32, day: u32) -> Survey
     };
     for b in 0..n {
         s = with_block(plan, day, s, is_odd(bits), b);
-        bits = bits / 2;
+        bits /= 2;
     }
     s
 }

@@ -1,11 +1,10 @@
 // What a step takes: a block of whole rounds, as many as may be taken, or else one day.
-ghost use Rattle.std.specs.Prelude.{◌≡◌, cond, ◌+◌, ◌/◌, ◌≤◌, ◌<◌, min};
+ghost use Rattle.std.specs.Prelude.{◌≡◌, cond, ◌+◌, ◌/◌, ◌≤◌, ◌<◌};
 ghost use Rattle.day.specs.Days.{last_number};
 ghost use Rattle.supply.specs.Code.Walking.{Most, RoundsDue, Takes};
 
 use crate::place::due_in;
 use crate::today::Today;
-use crate::until::least;
 use crate::walk::Walk;
 use pause::Sight;
 
@@ -18,12 +17,6 @@ pub(crate) struct Stride {
     pub need: u64,
     pub days: u32,
     pub still: bool,
-}
-
-fn lesser(x: u64, y: u64) -> u64
-    ensures { result ≡ min x y }
-{
-    if x < y { x } else { y }
 }
 
 // The whole rounds in so many days. Most are of one day.
@@ -50,7 +43,7 @@ fn rounds_in(interval: u64, need: u64, room: u64, rest: u64) -> u64
     if need == 0 {
         return rounds;
     }
-    lesser(rounds, rest / need)
+    rounds.min(rest / need)
 }
 
 // What the day needs: nothing if it is paused.
@@ -74,8 +67,8 @@ fn rounds_due(w: Walk, s: Sight) -> u64
     if s.paused | (r.interval == 0) {
         return NO_ROUNDS;
     }
-    let room = least(least(r.until, s.until), w.stop) + 1 - w.day;
-    rounds_in(r.interval as u64, r.need, room as u64, w.rest)
+    let room = r.until.min(s.until).min(w.stop) + 1 - w.day;
+    rounds_in(u64::from(r.interval), r.need, u64::from(room), w.rest)
 }
 
 // The step that is due: a block of rounds, or else a day.
@@ -96,7 +89,7 @@ pub(crate) fn next_stride(w: Walk, s: Sight) -> Stride
     let r = t.rounds;
     Stride {
         need: rounds * r.need,
-        days: (rounds * (r.interval as u64)) as u32,
+        days: (rounds * u64::from(r.interval)) as u32,
         still: true,
     }
 }

@@ -1,37 +1,37 @@
 // Where a day stands in the periods that have it. By rule 16 there are two at the most; the day has a place in each that has doses of the
 // choice, which knows nothing of the other.
-ghost use Rattle.std.specs.Prelude.{◌≡◌, true, cond, ◌&&◌, ◌+◌, ◌≤◌, ltb};
+ghost use Rattle.std.specs.Prelude.{◌≡◌, cond, ◌&&◌, ◌+◌, ◌≤◌, ltb, IfSome};
 ghost use Rattle.day.specs.Days.{last_number};
 ghost use Rattle.need.specs.Telling.{Tells};
 ghost use Rattle.supply.specs.Code.Standing.{Orderly, Placed, Known, Behind};
 
 use crate::place::{
-    NO_PERIOD, NO_PLACE, Period, Place, due_in, is_still, kept, next_place, period_at, place_on,
+    NO_PLACE, Period, Place, due_in, is_still, kept, next_place, period_at, place_on,
 };
-use crate::rounds::{NO_ROUND, Round, rounds_on};
+use crate::rounds::{NO_ROUND, Round, free, rounds_on};
 use crate::survey::survey_of;
 
 // The day stands in the periods `first` and `second`, at a place in each. Up to day `until` all of this stays but the places, and up to
 // day `same` each needs what the one ahead of it needs. `rounds` are those that may be taken, pauses apart.
 #[derive(Clone, Copy)]
 pub(crate) struct Today {
-    pub first: Period,
+    pub first: Option<Period>,
     pub in_first: Place,
     pub until: u32,
     pub same: u32,
     pub rounds: Round,
-    pub second: Period,
+    pub second: Option<Period>,
     pub in_second: Place,
 }
 
 // A day of which nothing is known.
 pub(crate) const NO_DAY: Today = Today {
-    first: NO_PERIOD,
+    first: None,
     in_first: NO_PLACE,
     until: 0,
     same: 0,
     rounds: NO_ROUND,
-    second: NO_PERIOD,
+    second: None,
     in_second: NO_PLACE,
 };
 
@@ -59,15 +59,16 @@ pub(crate) fn on_day(plan: &[u8], choice: u32, chosen: u32, day: u32) -> Today
     ensures { Known choice plan.now day result }
 {
     let s = survey_of(plan, chosen, day);
-    let one = period_at(plan, s.first, s.one);
-    let other = period_at(plan, s.second, s.other);
-    let first = kept(one);
-    let second = kept(other);
+    let one = period_at(plan, s.first);
+    let other = period_at(plan, s.second);
+    let first = kept(one, s.one);
+    let second = kept(other, s.other);
     let in_first = place_on(plan, choice, day, first);
     let in_second = place_on(plan, choice, day, second);
     let due = due_in(in_first, in_second);
-    let rounds = rounds_on(plan, choice, s.clear, one, other, due);
-    let until = known_until(first.any | second.any, rounds, s.until);
+    let alone = free(one, s.other).or(free(other, s.one));
+    let rounds = rounds_on(plan, choice, s.clear, alone, due);
+    let until = known_until(first.is_some() | second.is_some(), rounds, s.until);
     Today {
         first,
         in_first,
@@ -81,16 +82,15 @@ pub(crate) fn on_day(plan: &[u8], choice: u32, chosen: u32, day: u32) -> Today
 
 // The day behind that of t, while the periods stay.
 pub(crate) fn next_day(plan: &[u8], choice: u32, t: Today) -> Today
-    requires placed { (t.first.any ≡ true → Placed choice plan.now t.first t.in_first) × (t.first.any ≡ true → t.in_first.position ≤ last_number + 1) }
-    requires placed_2 { (t.second.any ≡ true → Placed choice plan.now t.second t.in_second) × (t.second.any ≡ true → t.in_second.position ≤ last_number + 1) }
+    requires first { IfSome t.first (λ x. Placed choice plan.now x t.in_first × (t.in_first.position ≤ last_number + 1)) }
+    requires second { IfSome t.second (λ x. Placed choice plan.now x t.in_second × (t.in_second.position ≤ last_number + 1)) }
     ensures { Behind choice plan.now t result }
 {
     let mut r = t;
     r.in_first = next_place(plan, choice, t.first, t.in_first);
-    let second = t.second;
-    if !second.any {
+    if t.second.is_none() {
         return r;
     }
-    r.in_second = next_place(plan, choice, second, t.in_second);
+    r.in_second = next_place(plan, choice, t.second, t.in_second);
     r
 }

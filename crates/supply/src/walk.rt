@@ -1,22 +1,19 @@
 // The walk over the days, by steps.
-ghost use Rattle.std.specs.Prelude.{◌≡◌, ◌-◌, ◌≤◌, false, cond, eqb};
+ghost use Rattle.std.specs.Prelude.{◌≡◌, ◌-◌, ◌≤◌, cond, eqb};
 ghost use Rattle.day.specs.Days.{open_mark};
-ghost use Rattle.supply.specs.Code.Walking.{Going, Able, Stood, Stays, Advanced, Went, reason_at, ended_of};
+ghost use Rattle.supply.specs.Code.Walking.{Going, Able, Stood, Stays, Advanced, Went, reason_at, lasting_at};
 
+use crate::Lasting;
 use crate::taking::{Stride, next_stride};
 use crate::today::{Today, next_day, on_day};
-use crate::{Lasting, Supply};
 use day::Day;
 use pause::Sight;
-use refusal::Refusal;
 
-// The walk stands on `day`, with a rest, after `count` steps, and goes on as long as `going`; where supply is refused it never goes.
-// `chosen` has a bit for each block whose period has doses of the choice. The walk is handed on by value at each step: its fields, and
-// those of what it holds, leave no gap, and stand in an order in which the compiler keeps them in registers.
+// The walk stands on `day`, with a rest, after `count` steps, and goes on as long as `going`.
+// `chosen` has a bit for each block whose period has doses of the choice. The walk is handed on by value at each step, and the compiler
+// keeps most of it in registers: a field more is felt on each day.
 #[derive(Clone, Copy)]
 pub(crate) struct Walk {
-    pub refused: bool,
-    pub refusal: Refusal,
     pub going: bool,
     pub start: u32,
     pub stop: u32,
@@ -25,19 +22,6 @@ pub(crate) struct Walk {
     pub chosen: u32,
     pub rest: u64,
     pub today: Today,
-}
-
-pub(crate) fn is_going(w: Walk) -> bool
-    ensures { result ≡ w.going }
-{
-    w.going
-}
-
-// The day to be looked at.
-pub(crate) fn day_of(w: Walk) -> u32
-    ensures { result ≡ w.day }
-{
-    w.day
 }
 
 // Why the walk ended: the day needs more than the rest, or it lies behind the stop day.
@@ -113,18 +97,14 @@ fn last_of_days(start: u32, day: u32) -> u32
 }
 
 // The answer of a walk that is over.
-pub(crate) fn ended(w: Walk) -> Supply
-    requires { w.refused ≡ false → w.start ≤ w.day }
-    ensures { result ≡ ended_of w }
+pub(crate) fn ended(w: Walk) -> Lasting
+    requires { w.start ≤ w.day }
+    ensures { result ≡ lasting_at w }
 {
-    if w.refused {
-        let refusal = w.refusal;
-        return Supply::Refused(refusal);
-    }
-    Supply::Lasts(Lasting {
+    Lasting {
         days: w.day - w.start,
         last: last_of_days(w.start, w.day),
         rest: w.rest,
         reason: reason_at(w.day, w.stop),
-    })
+    }
 }

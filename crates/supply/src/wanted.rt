@@ -12,14 +12,10 @@ use plan::{block_of, dose_in, doses_of, is_marked, is_period, last_of};
 fn has_interval(plan: &[u8], b: u8) -> bool
     ensures { result ≡ has_interval plan.now b }
 {
-    let n = doses_of(plan, b);
-    for j in 0..n {
+    (0..doses_of(plan, b)).any(|j| {
         let d = dose_in(plan, b, j);
-        if !is_marked(d) & (d.high != 0) {
-            return true;
-        }
-    }
-    false
+        !is_marked(d) & (d.high != 0)
+    })
 }
 
 // Has it one, and is it a period that ends on or after the start, which `fixed` says to be fixed or mixed?
@@ -32,13 +28,14 @@ fn is_ranging_at(plan: &[u8], start: u32, fixed: bool, b: u8) -> bool
     if !fixed {
         return false;
     }
-    if last_of(block_of(plan, b as u16)) < start {
+    if last_of(block_of(plan, u16::from(b))) < start {
         return false;
     }
     has_interval(plan, b)
 }
 
 // Is there a minimum and a maximum date, and not one end date?
+// Kept: a loop, since the bits are gone through beside the blocks, and `any` would change them behind its test.
 pub(crate) fn is_ranging(plan: &[u8], start: u32, chosen: u32) -> bool
     requires { Tells 1 plan.now chosen × (blocks_of plan.now ≤ 32) }
     ensures { result ≡ is_ranging start plan.now }
@@ -49,7 +46,7 @@ pub(crate) fn is_ranging(plan: &[u8], start: u32, chosen: u32) -> bool
         if is_ranging_at(plan, start, is_odd(bits), b) {
             return true;
         }
-        bits = bits / 2;
+        bits /= 2;
     }
     false
 }
@@ -59,6 +56,5 @@ pub(crate) fn is_needed(plan: &[u8], start: u32, chosen: u32) -> bool
     requires { Tells 4 plan.now chosen }
     ensures { result ≡ is_needed start plan.now }
 {
-    let stop = stop_of(plan, chosen);
-    stop.any & (start <= stop.day)
+    stop_of(plan, chosen).is_some_and(|day| start <= day)
 }

@@ -1,17 +1,20 @@
 -- Periods of one class, beside empty ones, and rules 15 and 17. Assumes nothing.
 use Prim.Native.Nat.{ℕ, ◌+◌, ◌≤◌, ◌<◌}
-use mathlib.Core.Bool.{true, false, ◌||◌}
+use mathlib.Core.Bool.{true, false}
 use mathlib.Core.List.{List}
 use mathlib.Core.Logic.{◌⊎◌, inl, inr, ⊎_elim}
 use mathlib.Core.Path.{◌≡◌, refl, sym, ◌∙◌}
 use native.Mathlib.Omega.{arith}
-use lib.Dec.{eqb}
 use borrow.Author.Count.{below_more}
-use borrow.Author.Tests.{eqb-true, eqb-false, ne_eqb}
 use Rattle.below.proofs.Search.{any_some, any_not}
-use Rattle.below.proofs.Tests.{or_either, not_true_false, true_not_false}
+use Rattle.below.proofs.Tests.{not_true_false, true_not_false}
 use Rattle.day.specs.Days.{last_number}
 use Rattle.plan.specs.Periods.{blocks_of, is_period, class_of}
+use Rattle.plan.specs.Classes.{is_empty}
+use Rattle.plan.specs.declared.Class.{Class}
+use Rattle.plan.specs.declared.Class.TheVariants.{Empty}
+use Rattle.plan.specs.declared.Class.TheVariants as class
+use Rattle.plan.proofs.Emptiness.{empty_is, not_empty_is, is_not_empty}
 use Rattle.verdict.specs.Coverage.{is_dosed, bare, in_group, meets, hole_at, hole, holes, is_member}
 use Rattle.verdict.specs.Code.Groups.{cover_of}
 use Rattle.verdict.specs.Code.Walks.{is_like, class_with}
@@ -20,75 +23,76 @@ use Rattle.verdict.specs.declared.Group.{Group}
 use Rattle.verdict.proofs.Meeting.{Meets, meets_some, some_meets, unmet, hole_parts, parts_hole}
 use Rattle.verdict.proofs.Members.{by_test, dosed_not_bare, member_period, member_group, member_in, wide}
 
+-- classes that are like one another, the second one with doses
+like_is : (x c : Class) → is_like x c ≡ true → (c ≡ Empty → ⊥) → (x ≡ Empty) ⊎ (c ≡ x)
+like_is class.Empty c e d = inl refl
+like_is x class.Empty e d = absurd (d refl)
+like_is class.Fixed class.Fixed e d = inr refl
+like_is class.Need class.Need e d = inr refl
+like_is class.Mixed class.Mixed e d = inr refl
+like_is x c e d = absurd (true_not_false refl (sym e))
+
 module _ (p : List ℕ) where
-  -- each period at the blocks below b is empty or of this class; where that is not 0, one of them has doses
-  pub record Alike (b class : ℕ) : Type 0 where
-    each : (k : ℕ) → k < b → is_period p k ≡ true → (class_of p k ≡ 0) ⊎ (class_of p k ≡ class)
-    some : (class ≡ 0 → ⊥) → (k : ℕ) × (k < b) × (is_dosed p k ≡ true)
+  -- each period at the blocks below b is empty or of this class; where that is not empty, one of them has doses
+  pub record Alike (b : ℕ) (class : Class) : Type 0 where
+    each : (k : ℕ) → k < b → is_period p k ≡ true → (class_of p k ≡ Empty) ⊎ (class_of p k ≡ class)
+    some : (class ≡ Empty → ⊥) → (k : ℕ) × (k < b) × (is_dosed p k ≡ true)
 
-  pub alike_zero : Alike 0 0
-  alike_zero = record { each = λ k l. absurd (omega arith); some = λ n. absurd (n (omega arith)) }
+  pub alike_zero : Alike 0 Empty
+  alike_zero = record { each = λ k l. absurd (omega arith); some = λ n. absurd (n refl) }
 
-  pub alike_past : {b class : ℕ} → is_period p b ≡ false → Alike b class → Alike (b + 1) class
+  pub alike_past : {b : ℕ} {class : Class} → is_period p b ≡ false → Alike b class → Alike (b + 1) class
   alike_past i w =
       record {
         each = below_more _ _ w.each (λ t. absurd (true_not_false t i));
         some = λ n. let s = w.some n in (s.0, omega (arith, s.1), s.2);
       }
 
-  module _ {b class : ℕ} (i : is_period p b ≡ true) (like : is_like class (class_of p b) ≡ true) (w : Alike b class) where
+  module _ {b : ℕ} {class : Class} (i : is_period p b ≡ true) (like : is_like class (class_of p b) ≡ true) (w : Alike b class) where
     -- an empty period, and one with doses
-    on_empty : class_of p b ≡ 0 → Alike (b + 1) class
+    on_empty : class_of p b ≡ Empty → Alike (b + 1) class
     on_empty e =
         record {
           each = below_more _ _ w.each (λ t. inl e);
           some = λ n. let s = w.some n in (s.0, omega (arith, s.1), s.2);
         }
 
-    on_dosed : (class_of p b ≡ 0 → ⊥) → Alike (b + 1) (class_of p b)
+    on_dosed : (class_of p b ≡ Empty → ⊥) → Alike (b + 1) (class_of p b)
     on_dosed d =
         record {
           each = below_more _ _ ahead (λ t. inr refl);
-          some = λ n. (b, omega arith, rw (i, ne_eqb (class_of p b) 0 d));
+          some = λ n. (b, omega arith, rw (i, is_not_empty (class_of p b) d));
         }
       where
-        same : (class ≡ 0) ⊎ (class_of p b ≡ class)
-        same =
-            ⊎_elim
-            (λ (t : (eqb (class_of p b) 0 || eqb class 0) ≡ true).
-            ⊎_elim (λ (u : eqb (class_of p b) 0 ≡ true). absurd (d (eqb-true _ _ u))) (λ u. inl (eqb-true _ _ u)) (or_either _ _ t))
-            (λ t. inr (eqb-true _ _ t))
-            (or_either (eqb (class_of p b) 0 || eqb class 0) (eqb (class_of p b) class) like)
-
-        ahead : (k : ℕ) → k < b → is_period p k ≡ true → (class_of p k ≡ 0) ⊎ (class_of p k ≡ class_of p b)
+        ahead : (k : ℕ) → k < b → is_period p k ≡ true → (class_of p k ≡ Empty) ⊎ (class_of p k ≡ class_of p b)
         ahead k l t =
             ⊎_elim
-            (λ (e : class_of p k ≡ 0). inl e)
-            (λ (e : class_of p k ≡ class). ⊎_elim (λ (z : class ≡ 0). inl (e ∙ z)) (λ z. inr (e ∙ sym z)) same)
+            (λ (e : class_of p k ≡ Empty). inl e)
+            (λ (e : class_of p k ≡ class). ⊎_elim (λ (z : class ≡ Empty). inl (e ∙ z)) (λ z. inr (e ∙ sym z)) (like_is class (class_of p b) like d))
             (w.each k l t)
 
     pub alike_on : Alike (b + 1) (class_with class (class_of p b))
     unfolding class_with
     alike_on =
-        by_test (eqb (class_of p b) 0)
-        (λ t. rw t (on_empty (eqb-true _ _ t)))
-        (λ t. rw t (on_dosed (eqb-false _ _ t)))
+        by_test (is_empty (class_of p b))
+        (λ t. rw t (on_empty (empty_is (class_of p b) t)))
+        (λ t. rw t (on_dosed (not_empty_is (class_of p b) t)))
 
-  module _ {n class : ℕ} (end : blocks_of p ≤ n) (upto : n ≤ blocks_of p) (w : Alike n class) where
+  module _ {n : ℕ} {class : Class} (end : blocks_of p ≤ n) (upto : n ≤ blocks_of p) (w : Alike n class) where
     -- rule 15
-    pub alike_dosed : (class ≡ 0 → ⊥) → bare p ≡ false
+    pub alike_dosed : (class ≡ Empty → ⊥) → bare p ≡ false
     alike_dosed d = let s = w.some d in dosed_not_bare p {b = s.0} (omega (arith, s.1)) s.2
 
     -- a group that has one of the periods has that class, and so its cover has all
-    module _ (g : Group) (dosed : in_group g 0 ≡ false) (empty : in_group (cover_of g) 0 ≡ true) where
+    module _ (g : Group) (dosed : in_group g Empty ≡ false) (empty : in_group (cover_of g) Empty ≡ true) where
       in_cover : {x : ℕ} → x < blocks_of p → is_member g p x ≡ true → (z : ℕ) → z < blocks_of p → is_period p z ≡ true → is_member (cover_of g) p z ≡ true
       in_cover {x} l m z k t =
           member_in (cover_of g) p z t
           (⊎_elim
-          (λ (e : class_of p z ≡ 0). rw e empty)
+          (λ (e : class_of p z ≡ Empty). rw e empty)
           (λ (e : class_of p z ≡ class).
           ⊎_elim
-          (λ (f : class_of p x ≡ 0). absurd (true_not_false (rw f at (member_group g p x m)) dosed))
+          (λ (f : class_of p x ≡ Empty). absurd (true_not_false (rw f at (member_group g p x m)) dosed))
           (λ (f : class_of p x ≡ class). let here : in_group g class ≡ true = rw f at (member_group g p x m) in rw e (wide g class here))
           (w.each x (omega arith) (member_period g p x m)))
           (w.each z (omega arith) t))

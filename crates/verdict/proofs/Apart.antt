@@ -5,22 +5,23 @@ use mathlib.Core.List.{List}
 use mathlib.Core.Logic.{⊎_elim}
 use mathlib.Core.Path.{◌≡◌, refl}
 use native.Mathlib.Omega.{arith}
-use lib.Dec.{leb}
-use lib.ListN.{get_or}
+use lib.Dec.{leb, ltb}
 use borrow.Author.Count.{below_more}
 use borrow.Author.Tests.{leb-true, ltb-false, not-true}
-use Rattle.below.specs.Below.{any_below, all_below}
-use Rattle.below.proofs.Search.{any_some, all_at_2}
-use Rattle.below.proofs.Tests.{and_both, or_either, or_neither, not_true_false, true_not_false}
+use Rattle.below.specs.Below.{any_below}
+use Rattle.below.proofs.Search.{any_some}
+use Rattle.below.proofs.Tests.{and_both, or_either, not_true_false, true_not_false}
 use Rattle.plan.specs.Fields.{first_of, last_of}
-use Rattle.plan.specs.Periods.{blocks_of, block_at, is_period, class_of}
+use Rattle.plan.specs.Periods.{block_at, is_period, class_of}
+use Rattle.plan.specs.declared.Class.{Class}
+use Rattle.plan.specs.declared.Class.TheVariants.{Empty}
+use Rattle.plan.specs.declared.Class.TheVariants as class
 use Rattle.verdict.specs.Coverage.{has_days, may_share, shares_with, shares, in_group, is_member}
-use Rattle.verdict.specs.Code.Ready.{Classed}
 use Rattle.verdict.specs.Code.Walks.{span_of, free_on}
 use Rattle.verdict.specs.declared.Group.TheVariants.{All, FixedOrEmpty, Need}
 use Rattle.verdict.specs.declared.Group.{Group}
-use Rattle.verdict.specs.declared.sharing.Free.{Free}
-use Rattle.verdict.proofs.Members.{by_test, under, member_in, member_none, member_out, class_small}
+use Rattle.std.specs.Prelude.{Option, Some, None, IfSome, is_some}
+use Rattle.verdict.proofs.Members.{by_test, under, member_in, member_none, member_out}
 
 module _ (g : Group) (p : List ℕ) where
   -- in block order, the periods of the group at the blocks below b lie one behind the other
@@ -50,31 +51,44 @@ module _ (g : Group) (p : List ℕ) where
       }
 
   -- what the walk holds when it stands at block b
-  pub record Walks (b : ℕ) (s : Free) : Type 0 where
-    found : s.lost ≡ false → Walked b s.day
+  pub record Walks (b : ℕ) (s : Option ℕ) : Type 0 where
+    found : IfSome s (λ free. Walked b free)
 
-  pub walks_zero : Walks 0 (record { day = 0; lost = false })
-  walks_zero = record { found = λ e. record { behind = λ k l. absurd (omega arith); apart = λ k l. absurd (omega arith) } }
+  pub walks_zero : Walks 0 (Some 0)
+  walks_zero = record { found = record { behind = λ k l. absurd (omega arith); apart = λ k l. absurd (omega arith) } }
 
-  pub walks_past : {b : ℕ} {s : Free} → is_period p b ≡ false → Walks b s → Walks (b + 1) s
-  walks_past {b} i w = record { found = λ e. past (member_none g p b i) (w.found e) }
+  pub walks_past : {b : ℕ} {s : Option ℕ} → is_period p b ≡ false → Walks b s → Walks (b + 1) s
+  walks_past {b} {s = None} i w = record { found = tt }
+  walks_past {b} {s = Some day} i w = record { found = past (member_none g p b i) w.found }
 
-  pub walks_on : {b : ℕ} {s : Free} → Walks b s → Walks (b + 1) (free_on g (span_of p b) s)
+  pub walks_on : {b : ℕ} {s : Option ℕ} → Walks b s → Walks (b + 1) (free_on g (span_of p b) s)
   unfolding free_on
-  walks_on {b} {s} w =
+  walks_on {b} {s = None} w = record { found = tt }
+  walks_on {b} {s = Some day} w =
       by_test (in_group g (class_of p b))
-      (λ t. rw t (record { found = λ e. let o = or_neither s.lost _ e in more (ltb-false _ _ o.1) (w.found o.0) }))
-      (λ t. rw t (record { found = λ e. past (member_out g p b t) (w.found e) }))
+      (λ t.
+      by_test (ltb (first_of (block_at p b)) day)
+      (λ u. rw (t, u) (record { found = tt }))
+      (λ u. rw (t, u) (record { found = more (ltb-false _ _ u) w.found })))
+      (λ t. rw t (record { found = past (member_out g p b t) w.found }))
+
+  -- .. and has found where it came to its end
+  pub walked : {n : ℕ} {s : Option ℕ} → Walks n s → is_some s ≡ true → ApartBelow n
+  walked {n} {s = None} w h = absurd (true_not_false h refl)
+  walked {n} {s = Some day} w h = w.found.apart
 
 -- both classes are in the group
-together : Group → ℕ → ℕ → Bool
+together : Group → Class → Class → Bool
 together g x y = in_group g x && in_group g y
 
 -- classes that may not share a day are together in one of two groups
-one_group : (x y : ℕ) → x < 4 → y < 4 → (may_share x y || (together FixedOrEmpty x y || together Need x y)) ≡ true
-unfolding all_below together
-one_group x y l m =
-    all_at_2 (λ (x y : ℕ). may_share x y || (together FixedOrEmpty x y || together Need x y)) 4 4 refl x y l m
+one_group : (x y : Class) → (may_share x y || (together FixedOrEmpty x y || together Need x y)) ≡ true
+unfolding together
+one_group Empty Empty = refl
+one_group class.Fixed Empty = refl
+one_group class.Need Empty = refl
+one_group class.Mixed Empty = refl
+one_group x y = refl
 
 module _ (p : List ℕ) {n a b : ℕ} (l : a < b) (q : b < n) (i : is_period p a ≡ true) (j : is_period p b ≡ true) where
   clash : (g : Group) → ApartBelow g p n → first_of (block_at p b) ≤ last_of (block_at p a) →
@@ -110,37 +124,36 @@ shared p b e =
     }
 
 -- where both walks came to their end, no period breaks rule 16
-module _ (p : List ℕ) {n : ℕ} {s t : Free} (f : Walks FixedOrEmpty p n s) (d : Walks Need p n t) where
-  pub walks_end : not (s.lost || t.lost) ≡ true → (b : ℕ) → b < n → shares p b ≡ false
-  walks_end h b l =
-      let o = or_neither s.lost _ (not-true _ h) in
+module _ (p : List ℕ) {n : ℕ} {s t : Option ℕ} (f : Walks FixedOrEmpty p n s) (d : Walks Need p n t) where
+  pub walks_end : is_some s ≡ true → is_some t ≡ true → (b : ℕ) → b < n → shares p b ≡ false
+  walks_end g h b l =
       not_true_false _
       (λ e.
       let x = shared p b e in
-      let one = one_group (class_of p x.a) (class_of p b) (class_small p x.a) (class_small p b) in
+      let one = one_group (class_of p x.a) (class_of p b) in
       ⊎_elim
-      (clash p x.ahead l x.that x.this FixedOrEmpty (f.found o.0).apart x.days)
-      (clash p x.ahead l x.that x.this Need (d.found o.1).apart x.days)
+      (clash p x.ahead l x.that x.this FixedOrEmpty (walked FixedOrEmpty p f g) x.days)
+      (clash p x.ahead l x.that x.this Need (walked Need p d h) x.days)
       (or_either _ _ (rw x.classes at one)))
 
 -- .. nor where one over all periods did
-pub walks_all : (p : List ℕ) {n : ℕ} {s : Free} → Walks All p n s → s.lost ≡ false → (b : ℕ) → b < n → shares p b ≡ false
+pub walks_all : (p : List ℕ) {n : ℕ} {s : Option ℕ} → Walks All p n s → is_some s ≡ true → (b : ℕ) → b < n → shares p b ≡ false
 unfolding together
 walks_all p f h b l =
     not_true_false _
-    (λ e. let x = shared p b e in clash p x.ahead l x.that x.this All (f.found h).apart x.days refl)
+    (λ e. let x = shared p b e in clash p x.ahead l x.that x.this All (walked All p f h) x.days refl)
 
--- the test of two periods by their entries
-module _ {p cs : List ℕ} (k : Classed p cs) {a b : ℕ} (n : b < blocks_of p) (j : is_period p b ≡ true) (l : a < b) where
-  pub shares_by_entries :
+-- the test of two periods by their classes, which are known where they are periods
+module _ (p : List ℕ) (a b : ℕ) {x y : Class} (k : is_period p a ≡ true → x ≡ class_of p a) (j : y ≡ class_of p b) where
+  pub shares_by_classes :
       (is_period p a
       && has_days p (first_of (block_at p b)) (last_of (block_at p b)) a
-      && not (may_share (get_or cs a 0) (get_or cs b 0)))
+      && not (may_share x y))
       ≡ shares_with p b a
   unfolding shares_with
-  shares_by_entries =
-      rw (k.entry b n j)
+  shares_by_classes =
+      rw j
       (under
       (is_period p a && has_days p (first_of (block_at p b)) (last_of (block_at p b)) a)
       (λ x. not (may_share x (class_of p b)))
-      (λ e. k.entry a (omega arith) (and_both (is_period p a) _ e).0))
+      (λ e. k (and_both (is_period p a) _ e).0))

@@ -1,4 +1,5 @@
 -- A plan is accepted exactly when no rule is broken. Assumes nothing.
+use Rattle.std.specs.Prelude.{Err, Ok}
 use Prim.Native.Nat.{ℕ, ◌≤◌, ◌<◌}
 use mathlib.Core.Bool.{true, false}
 use mathlib.Core.List.{List}
@@ -16,7 +17,6 @@ use Rattle.plan.specs.Periods.{blocks_of}
 use Rattle.refusal.proofs.Order.{passed_lowest}
 use Rattle.refusal.specs.declared.Refusal.{Refusal}
 use Rattle.verdict.specs.Verdict.{plan_limit, breaks, first_rule, verdict_of}
-use Rattle.verdict.specs.declared.Answer.TheVariants.{Accepted, Broken}
 use Rattle.verdict.proofs.Lowest.{Clear, row_form, accepted_is}
 
 -- no rule is broken: not rule 1, and no other at any block
@@ -24,7 +24,7 @@ pub record NoRuleBroken (p : List ℕ) : Type 0 where
   pub long : bad_length plan_limit p ≡ false
   pub none : (k b : ℕ) → k < 18 → b < blocks_of p → breaks p k b ≡ false
 
-not_both : {n : ℕ} {r : Refusal} → Broken r ≡ Accepted n → ⊥
+not_both : {n : ℕ} {r : Refusal} → Err r ≡ Ok n → ⊥
 not_both e = let z : ◌≡◌ {A = ℕ} 0 1 = cc in omega arith
 
 module _ (p : List ℕ) where
@@ -32,11 +32,11 @@ module _ (p : List ℕ) where
   clear n k l = any_none (breaks p k) (λ b q. n.none k b l q)
 
   -- where no rule is broken the plan is accepted
-  pub accepted_where : NoRuleBroken p → verdict_of p ≡ Accepted (length p)
+  pub accepted_where : NoRuleBroken p → verdict_of p ≡ Ok (length p)
   accepted_where n = sym (accepted_is p n.long (clear n))
 
   -- and only there
-  pub accepted_only : {n : ℕ} → verdict_of p ≡ Accepted n → NoRuleBroken p
+  pub accepted_only : {n : ℕ} → verdict_of p ≡ Ok n → NoRuleBroken p
   unfolding verdict_of
   accepted_only e =
       ⊎_elim

@@ -1,4 +1,5 @@
 -- The order of the rules: what the steps of the verdict show of the table. Assumes nothing.
+use Rattle.std.specs.Prelude.{Err, Ok}
 use Prim.Native.Nat.{ℕ, ◌+◌, ◌-◌, ◌≤◌, ◌<◌}
 use mathlib.Core.Bool.{true, false, ◌&&◌}
 use mathlib.Core.List.{List}
@@ -14,7 +15,6 @@ use Rattle.below.proofs.Search.{NoneBelow, any_none, any_same, first_is, first_f
 use Rattle.below.proofs.Tests.{bool_cases, le_or_lt}
 use Rattle.form.proofs.Formed.{Formed}
 use Rattle.form.specs.Form.{bad_length, form_breaks, form_rule, form_of}
-use Rattle.form.specs.declared.Form.TheVariants.{Broken as Misformed}
 use Rattle.period.specs.Period.{period_breaks, rule_of}
 use Rattle.plan.specs.Periods.{blocks_of, is_period}
 use Rattle.refusal.proofs.Order.{Passed, rule_is, rule_none, passed_lowest, block_facts, block_some}
@@ -24,7 +24,6 @@ use Rattle.refusal.specs.declared.Refusal.{Refusal}
 use Rattle.verdict.specs.Coverage.{bare, shares, holes}
 use Rattle.verdict.specs.Code.Judging.{Lowest}
 use Rattle.verdict.specs.Verdict.{plan_limit, breaks, first_rule, first_block, verdict_of}
-use Rattle.verdict.specs.declared.Answer.TheVariants.{Accepted, Broken}
 
 module _ (p : List ℕ) where
   -- the rows of the table
@@ -54,14 +53,14 @@ module _ (p : List ℕ) where
 
   -- the answer, by what the steps have shown
   module _ (long : bad_length plan_limit p ≡ false) where
-    pub broken_is : {k b : ℕ} → k < 18 → Clear k → b < blocks_of p → NoneBelow (breaks p k) b → breaks p k b ≡ true → Broken (rule_at k b) ≡ verdict_of p
+    pub broken_is : {k b : ℕ} → k < 18 → Clear k → b < blocks_of p → NoneBelow (breaks p k) b → breaks p k b ≡ true → Err (rule_at k b) ≡ verdict_of p
     unfolding verdict_of lowest_block
     broken_is {k} {b} l clear q none hit =
         let e : first_block p k ≡ b = first_is (breaks p k) q none hit in
         let f : first_rule p ≡ k = rule_is (blocks_of p) (breaks p) l clear (omega arith) in
         rw (long, f, e, lt-ltb k 18 l)
 
-    pub accepted_is : Clear 18 → Accepted (length p) ≡ verdict_of p
+    pub accepted_is : Clear 18 → Ok (length p) ≡ verdict_of p
     unfolding verdict_of
     accepted_is clear = let f : first_rule p ≡ 18 = rule_none (blocks_of p) (breaks p) (le_refl 18) clear in rw (long, f)
 
@@ -69,7 +68,7 @@ module _ (p : List ℕ) where
   pub formed_clear : Formed plan_limit p → Clear 5
   formed_clear f k l = any_same (breaks p k) (form_breaks p k) (blocks_of p) (λ b q. row_form l b) ∙ f.passed k l
 
-  form_place : ltb (form_rule p) 5 ≡ true → bad_length plan_limit p ≡ false → Broken (rule_at (form_rule p) (lowest_block (blocks_of p) (form_breaks p) (form_rule p))) ≡ verdict_of p
+  form_place : ltb (form_rule p) 5 ≡ true → bad_length plan_limit p ≡ false → Err (rule_at (form_rule p) (lowest_block (blocks_of p) (form_breaks p) (form_rule p))) ≡ verdict_of p
   form_place u long =
       let n = blocks_of p in
       let k = form_rule p in
@@ -82,7 +81,7 @@ module _ (p : List ℕ) where
       (λ b h. row_form l b ∙ f.before b h)
       (row_form l _ ∙ f.here q)
 
-  pub form_broken : {r : Refusal} → form_of plan_limit p ≡ Misformed r → Broken r ≡ verdict_of p
+  pub form_broken : {r : Refusal} → form_of plan_limit p ≡ Err r → Err r ≡ verdict_of p
   unfolding form_of verdict_of
   form_broken {r} e =
       ⊎_elim
@@ -171,7 +170,7 @@ module _ (p : List ℕ) where
         (le_or_lt 5 k)
 
     -- and it is broken there first
-    pub lowest_broken : bad_length plan_limit p ≡ false → Clear 5 → rule < 15 → Broken (rule_at rule place) ≡ verdict_of p
+    pub lowest_broken : bad_length plan_limit p ≡ false → Clear 5 → rule < 15 → Err (rule_at rule place) ≡ verdict_of p
     lowest_broken long five l =
         let s = w.some l in
         let hit : period_breaks rule p place ≡ true = rw s.2 at (rule_hit place (omega (arith, s.2))) in

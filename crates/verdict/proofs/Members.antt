@@ -1,21 +1,19 @@
 -- Laws that the proofs of rules 15 to 17 share: of classes that are worked out ahead, and of members of a group. Assumes
 -- nothing.
 use Prim.Native.Nat.{ℕ, ◌<◌}
-use mathlib.Core.Bool.{Bool, true, false, not, ◌&&◌}
+use mathlib.Core.Bool.{Bool, true, false, ◌&&◌}
 use mathlib.Core.List.{List}
 use mathlib.Core.Logic.{⊎_elim}
-use mathlib.Core.Path.{◌≡◌, refl, sym}
-use native.Mathlib.Omega.{arith}
+use mathlib.Core.Path.{◌≡◌, refl}
 use lib.Dec.{eqb}
-use lib.ListN.{get_or}
 use borrow.Author.Tests.{eqb-false}
 use Rattle.below.proofs.Search.{any_hit}
 use Rattle.below.proofs.Tests.{bool_cases, and_both, both_and, and_false, or_true, true_not_false, not_true_false}
 use Rattle.day.specs.Days.{closed_day, last_number, open_mark}
-use Rattle.plan.specs.Periods.{blocks_of, is_period, class_by, class_of, has_unmarked, has_marked}
+use Rattle.plan.specs.Periods.{blocks_of, is_period, class_of}
+use Rattle.plan.specs.declared.Class.{Class}
 use Rattle.verdict.specs.Coverage.{is_dosed, in_group, bare, is_member}
 use Rattle.verdict.specs.Code.Groups.{cover_of}
-use Rattle.verdict.specs.Code.Ready.{Classed}
 use Rattle.verdict.specs.declared.Group.TheVariants.{All, Fixed, Need, FixedOrEmpty, NeedOrEmpty}
 use Rattle.verdict.specs.declared.Group.{Group}
 
@@ -23,18 +21,10 @@ use Rattle.verdict.specs.declared.Group.{Group}
 pub by_test : {A : Type 0} (t : Bool) → (t ≡ true → A) → (t ≡ false → A) → A
 by_test t f g = ⊎_elim f g (bool_cases t)
 
--- two numbers that agree where q holds: where it does not, neither matters
-pub under : (q : Bool) (f : ℕ → Bool) {x y : ℕ} → (q ≡ true → x ≡ y) → (q && f x) ≡ (q && f y)
+-- two classes that agree where q holds: where it does not, neither matters
+pub under : (q : Bool) (f : Class → Bool) {x y : Class} → (q ≡ true → x ≡ y) → (q && f x) ≡ (q && f y)
 under true f h = rw (h refl)
 under false f h = refl
-
-module _ {p cs : List ℕ} (k : Classed p cs) {b : ℕ} (l : b < blocks_of p) where
-  -- so a test of a period's entry is one of its class
-  pub by_entry : (f : ℕ → Bool) → (is_period p b && f (get_or cs b 0)) ≡ (is_period p b && f (class_of p b))
-  by_entry f = under (is_period p b) f (k.entry b l)
-
-  pub dosed_entry : is_dosed p b ≡ (is_period p b && not (eqb (get_or cs b 0) 0))
-  dosed_entry = sym (by_entry (λ x. not (eqb x 0)))
 
 module _ (p : List ℕ) where
   -- one period with doses, and rule 15 is kept
@@ -65,7 +55,7 @@ module _ (g : Group) (p : List ℕ) (b : ℕ) where
   member_out i = rw (i, and_false)
 
 -- a group is in its cover
-pub wide : (g : Group) (c : ℕ) → in_group g c ≡ true → in_group (cover_of g) c ≡ true
+pub wide : (g : Group) (c : Class) → in_group g c ≡ true → in_group (cover_of g) c ≡ true
 wide All c e = e
 wide Fixed c e = rw (e, or_true)
 wide Need c e = rw (e, or_true)
@@ -78,17 +68,6 @@ member_wide g p b m = let x = and_both (is_period p b) _ m in both_and x.0 (wide
 
 pub not_member : (g : Group) (p : List ℕ) (b : ℕ) → is_member (cover_of g) p b ≡ false → is_member g p b ≡ false
 not_member g p b e = not_true_false _ (λ m. true_not_false (member_wide g p b m) e)
-
-by_small : (u m : Bool) → class_by u m < 4
-by_small true true = omega arith
-by_small true false = omega arith
-by_small false true = omega arith
-by_small false false = omega arith
-
--- there are four classes
-pub class_small : (p : List ℕ) (b : ℕ) → class_of p b < 4
-unfolding class_of
-class_small p b = by_small (has_unmarked p b) (has_marked p b)
 
 -- a closed end is never the open mark, the largest number, so the day after it fits
 pub closed_not_open : (n : ℕ) → closed_day n ≡ open_mark → ⊥

@@ -1,13 +1,14 @@
 -- A walk over the periods of a group and its cover shows that the group has no hole. Assumes nothing.
+use Rattle.std.specs.Prelude.{Option, Some, None, IfSome, is_some}
 use Prim.Native.Nat.{ℕ, ◌+◌, ◌≤◌, ◌<◌, max}
-use mathlib.Core.Bool.{true, false, not, ◌&&◌, ◌||◌}
+use mathlib.Core.Bool.{true, false, ◌&&◌, ◌||◌}
 use mathlib.Core.List.{List}
 use mathlib.Core.Logic.{⊎_elim}
-use mathlib.Core.Path.{◌≡◌}
+use mathlib.Core.Path.{◌≡◌, refl, ◌∙◌}
 use native.Mathlib.Omega.{arith}
 use lib.Dec.{leb}
 use borrow.Author.Count.{below_more}
-use borrow.Author.Tests.{leb-true, not-true}
+use borrow.Author.Tests.{leb-true}
 use Rattle.below.proofs.Search.{any_some}
 use Rattle.below.proofs.Tests.{and_both, or_neither, le_or_lt, true_not_false, not_true_false}
 use Rattle.day.specs.Days.{last_number}
@@ -60,31 +61,40 @@ module _ (g : Group) (p : List ℕ) where
         }
 
   -- what the walk holds when it stands at block b
-  pub record Reaches (b : ℕ) (s : Reach) : Type 0 where
-    found : s.lost ≡ false → Reached b s.from s.to
+  record Held (b : ℕ) (s : Reach) : Type 0 where
+    found : Reached b s.from s.to
     none : s.began ≡ false → Absent b
 
-  pub reaches_zero : Reaches 0 (record { from = 0; to = 0; began = false; lost = false })
+  pub record Reaches (b : ℕ) (s : Option Reach) : Type 0 where
+    held : IfSome s (λ r. Held b r)
+
+  pub reaches_zero : Reaches 0 (Some (record { from = 0; to = 0; began = false }))
   reaches_zero =
       record {
-        found = λ e. record { inside = λ k l. absurd (omega arith); covered = λ d l m. absurd (omega arith) };
-        none = λ e k l. absurd (omega arith);
+        held =
+            record {
+              found = record { inside = λ k l. absurd (omega arith); covered = λ d l m. absurd (omega arith) };
+              none = λ e k l. absurd (omega arith);
+            };
       }
 
-  over : {b : ℕ} {s : Reach} → is_member g p b ≡ false → Reaches b s → Reaches (b + 1) s
-  over n r = record { found = λ e. past n (r.found e); none = λ e. absent n (r.none e) }
+  over : {b : ℕ} {s : Reach} → is_member g p b ≡ false → Held b s → Held (b + 1) s
+  over n r = record { found = past n r.found; none = λ e. absent n (r.none e) }
 
-  pub reaches_past : {b : ℕ} {s : Reach} → is_period p b ≡ false → Reaches b s → Reaches (b + 1) s
-  reaches_past {b} i r = over (member_none g p b i) r
+  pub reaches_past : {b : ℕ} {s : Option Reach} → is_period p b ≡ false → Reaches b s → Reaches (b + 1) s
+  reaches_past {b} {s = None} i r = record { held = tt }
+  reaches_past {b} {s = Some s} i r = record { held = over (member_none g p b i) r.held }
 
   -- the group has not begun at block b either
-  still : {b : ℕ} {s : Reach} → Reaches b s → (s.began || in_group g (class_of p b)) ≡ false → Absent (b + 1)
+  still : {b : ℕ} {s : Reach} → Held b s → (s.began || in_group g (class_of p b)) ≡ false → Absent (b + 1)
   still {b} {s} r e = let o = or_neither s.began _ e in absent (member_out g p b o.1) (r.none o.0)
 
-  pub reaches_on : {b : ℕ} {s : Reach} → b < blocks_of p → is_period p b ≡ true → Reaches b s →
+  pub reaches_on : {b : ℕ} {s : Option Reach} → b < blocks_of p → is_period p b ≡ true → Reaches b s →
       Reaches (b + 1) (reach_on g (span_of p b) s)
   unfolding reach_on
-  reaches_on {b} {s} l i r =
+  reaches_on {b} {s = None} l i w = record { held = tt }
+  reaches_on {b} {s = Some s} l i w =
+      let r = w.held in
       let first = first_of (block_at p b) in
       let spans = in_group g (class_of p b) in
       by_test (in_group (cover_of g) (class_of p b))
@@ -95,25 +105,29 @@ module _ (g : Group) (p : List ℕ) where
       let q = and_both (leb s.from first) _ t in
       rw (c, t)
       (record {
-        found = λ e. join l m (r.found e) (leb-true _ _ q.0) (leb-true _ _ q.1);
-        none = still r;
+        held = record { found = join l m r.found (leb-true _ _ q.0) (leb-true _ _ q.1); none = still r };
       }))
       (λ t.
-      by_test (s.began && not spans)
-      (λ k. rw (c, t, k) (over (member_out g p b (not-true _ (and_both s.began _ k).1)) r))
+      by_test s.began
+      (λ k.
+      by_test spans
+      (λ n. rw (c, t, k, n) (record { held = tt }))
+      (λ n.
+      let h : Held b (record { from = s.from; to = s.to; began = true }) = record { found = r.found; none = λ e. r.none (k ∙ e) } in
+      rw (c, t, k, n) (record { held = over (member_out g p b n) h })))
       (λ k.
       rw (c, t, k)
       (record {
-        found = λ e. let o = or_neither s.lost s.began e in begin l m (r.found o.0) (r.none o.1);
-        none = still r;
+        held = record { found = begin l m r.found (r.none k); none = λ e. absent (member_out g p b e) (r.none k) };
       }))))
-      (λ c. rw c (over (not_member g p b (member_out (cover_of g) p b c)) r))
+      (λ c. rw c (record { held = over (not_member g p b (member_out (cover_of g) p b c)) r }))
 
-  -- where the walk came to its end and is not lost, the group has no hole
-  pub reaches_end : {b : ℕ} {s : Reach} → blocks_of p ≤ b → Reaches b s → s.lost ≡ false → hole g (cover_of g) p ≡ false
+  -- where the walk came to its end, the group has no hole
+  pub reaches_end : {b : ℕ} {s : Option Reach} → blocks_of p ≤ b → Reaches b s → is_some s ≡ true → hole g (cover_of g) p ≡ false
   unfolding hole
-  reaches_end n w f =
-      let r = w.found f in
+  reaches_end {b} {s = None} n w f = absurd (true_not_false f refl)
+  reaches_end {b} {s = Some s} n w f =
+      let r = w.held.found in
       not_true_false _
       (λ e.
       let s = any_some (hole_at g (cover_of g) p) (last_number + 1) e in

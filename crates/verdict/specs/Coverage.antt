@@ -1,15 +1,18 @@
 -- Rules 15 to 17: all periods of the plan p together.
-use Rattle.std.specs.Prelude.{ℕ, ◌+◌, Bool, true, not, ◌&&◌, ◌||◌, List, eqb, leb}
+use Rattle.std.specs.Prelude.{ℕ, ◌+◌, Bool, true, false, not, ◌&&◌, ◌||◌, List, eqb, leb}
 use Rattle.below.specs.Below.{any_below}
 use Rattle.day.specs.Days.{last_number}
 use Rattle.plan.specs.Fields.{first_of, last_of, vka_of}
-use Rattle.plan.specs.Periods.{blocks_of, block_at, is_period, empty, fixed, need, mixed, class_of}
+use Rattle.plan.specs.Periods.{blocks_of, block_at, is_period, class_of}
+use Rattle.plan.specs.Classes.{is_empty, has_fixed, has_need}
+use Rattle.plan.specs.declared.Class.{Class}
+use Rattle.plan.specs.declared.Class.TheVariants as class
 use Rattle.verdict.specs.declared.Group.TheVariants.{All, Fixed, Need, FixedOrEmpty, NeedOrEmpty}
 use Rattle.verdict.specs.declared.Group.{Group}
 
 -- the period at block b has doses
 abbrev pub is_dosed : List ℕ → ℕ → Bool
-is_dosed p b = is_period p b && not (eqb (class_of p b) empty)
+is_dosed p b = is_period p b && not (is_empty (class_of p b))
 
 -- Rule 15: "no period at all, or only empty ones in a plan that isn't VKA"
 unfoldable pub bare : List ℕ → Bool
@@ -22,8 +25,12 @@ abbrev pub has_days : List ℕ → ℕ → ℕ → ℕ → Bool
 has_days p lo hi b = leb (first_of (block_at p b)) hi && leb lo (last_of (block_at p b))
 
 -- "unless one is need and the other fixed or empty"
-abbrev pub may_share : ℕ → ℕ → Bool
-may_share x y = (eqb x need && (eqb y fixed || eqb y empty)) || (eqb y need && (eqb x fixed || eqb x empty))
+abbrev pub may_share : Class → Class → Bool
+may_share class.Need class.Fixed = true
+may_share class.Need class.Empty = true
+may_share class.Fixed class.Need = true
+may_share class.Empty class.Need = true
+may_share x y = false
 
 -- the periods at blocks a and b share a day, and may not
 unfoldable pub shares_with : List ℕ → ℕ → ℕ → Bool
@@ -37,12 +44,12 @@ unfoldable pub shares : List ℕ → ℕ → Bool
 shares p b = is_period p b && any_below b (shares_with p b)
 
 -- the groups of periods that rule 17 names, by class
-abbrev pub in_group : Group → ℕ → Bool
+abbrev pub in_group : Group → Class → Bool
 in_group All c = true
-in_group Fixed c = eqb c fixed || eqb c mixed
-in_group Need c = eqb c need || eqb c mixed
-in_group FixedOrEmpty c = eqb c empty || (eqb c fixed || eqb c mixed)
-in_group NeedOrEmpty c = eqb c empty || (eqb c need || eqb c mixed)
+in_group Fixed c = has_fixed c
+in_group Need c = has_need c
+in_group FixedOrEmpty c = is_empty c || has_fixed c
+in_group NeedOrEmpty c = is_empty c || has_need c
 
 -- block b begins a period of the group
 unfoldable pub is_member : Group → List ℕ → ℕ → Bool

@@ -1,13 +1,11 @@
 -- The table of rules, the order in which they are named, and the answer.
-use Rattle.std.specs.Prelude.{ℕ, Bool, cond, ◌&&◌, List, eqb, ltb, length}
-use Rattle.refusal.specs.declared.Refusal.{Refusal}
-use Rattle.refusal.specs.Refusals.{rule_at, alone, code_of}
+use Rattle.std.specs.Prelude.{ℕ, Bool, cond, ◌&&◌, List, eqb, ltb, length, Err, Ok}
+use Rattle.refusal.specs.Refusals.{rule_at}
 use Rattle.refusal.specs.Order.{lowest_rule, lowest_block}
 use Rattle.plan.specs.Periods.{blocks_of, is_period}
 use Rattle.form.specs.Form.{bad_length, form_breaks}
 use Rattle.period.specs.Period.{period_breaks}
-use Rattle.verdict.specs.declared.Answer.{Answer}
-use Rattle.verdict.specs.declared.Answer.TheVariants.{Accepted, Broken}
+use Rattle.verdict.specs.Answers.{Answer}
 use Rattle.verdict.specs.Coverage.{bare, shares, holes}
 
 -- "above 16,384"
@@ -35,14 +33,5 @@ first_block p k = lowest_block (blocks_of p) (breaks p) k
 -- "An answer is either the plan or its first broken rule (the plan by its length)."
 unfoldable pub verdict_of : List ℕ → Answer
 verdict_of p =
-    cond (bad_length plan_limit p) (Broken (rule_at 1 0))
-    (cond (ltb (first_rule p) 18) (Broken (rule_at (first_rule p) (first_block p (first_rule p)))) (Accepted (length p)))
-
--- "The answer is a number and a place": 0 and 255 where nothing is broken
-abbrev pub refusal_of : Answer → Refusal
-refusal_of (Accepted n) = alone 0
-refusal_of (Broken r) = r
-
--- what C gets
-abbrev pub code_of_answer : Answer → ℕ
-code_of_answer a = code_of (refusal_of a)
+    cond (bad_length plan_limit p) (Err (rule_at 1 0))
+    (cond (ltb (first_rule p) 18) (Err (rule_at (first_rule p) (first_block p (first_rule p)))) (Ok (length p)))

@@ -1,52 +1,26 @@
-// Rule 15, and what rules 16 and 17 share: the group and the days of a period. The classes of all periods are worked out
-// once by the caller and lent as `cs`: entry b is that of the period at block b, and other entries are never used.
-ghost use Rattle.std.specs.Prelude.{◌≡◌, true, ◌+◌, ◌<◌, max};
+// Rule 15, and what rules 16 and 17 share: the group and the days of a period.
+ghost use Rattle.std.specs.Prelude.{◌≡◌, true, ◌+◌, ◌<◌};
 ghost use Rattle.plan.specs.Fields.{last_of};
 ghost use Rattle.plan.specs.Periods.{blocks_of, is_period};
-ghost use Rattle.verdict.specs.Coverage.{bare, has_days, in_group, is_member};
-ghost use Rattle.verdict.specs.Code.Ready.{Classed};
+ghost use Rattle.verdict.specs.Coverage.{is_dosed, bare, has_days, in_group, is_member};
 ghost use Rattle.verdict.specs.Code.Walks.{span_of};
 
-use crate::Group;
-use plan::{block_of, first_of, is_period, last_of, vka_of};
+use crate::{ClassedPlan, Group};
+use plan::{Class, block_of, first_of, is_period, last_of, vka_of};
 
-// Rule 15. A period with doses, which a plan mostly begins with, ends the search.
-pub(crate) fn is_bare(plan: &[u8], cs: &[u8; 32]) -> bool
-    requires { Classed plan.now cs.now }
-    ensures { result ≡ bare plan.now }
-{
-    let n = (plan.len() / 512) as u8;
-    let mut found = false;
-    for b in 0..n {
-        let period = is_period(plan, b);
-        if period & !(cs[b as usize] == 0) {
-            return false;
+impl Group {
+    // Is a period of class c in the group?
+    pub(crate) fn holds(self, c: Class) -> bool
+        ensures { result ≡ in_group self c }
+    {
+        match self {
+            Group::All => true,
+            Group::Fixed => c.has_fixed(),
+            Group::Need => c.has_need(),
+            Group::FixedOrEmpty => c.is_empty() | c.has_fixed(),
+            Group::NeedOrEmpty => c.is_empty() | c.has_need(),
         }
-        found = found | period;
     }
-    !found | !(vka_of(block_of(plan, 0)) == 1)
-}
-
-// Is a period of class c in the group?
-pub(crate) fn in_group(g: Group, c: u8) -> bool
-    ensures { result ≡ in_group g c }
-{
-    match g {
-        Group::All => true,
-        Group::Fixed => (c == 1) | (c == 3),
-        Group::Need => (c == 2) | (c == 3),
-        Group::FixedOrEmpty => (c == 0) | ((c == 1) | (c == 3)),
-        Group::NeedOrEmpty => (c == 0) | ((c == 2) | (c == 3)),
-    }
-}
-
-// Does block b begin a period of the group?
-pub(crate) fn is_member(g: Group, plan: &[u8], cs: &[u8; 32], b: u8) -> bool
-    requires classed { Classed plan.now cs.now }
-    requires b_bound { b < blocks_of plan.now }
-    ensures { result ≡ is_member g plan.now b }
-{
-    is_period(plan, b) & in_group(g, cs[b as usize])
 }
 
 // Has the period at block b a day from lo to hi?
@@ -67,28 +41,49 @@ pub(crate) fn day_after(block: &[u8]) -> u32
 // A period as the walks over all of them take it: its class, its first day and the day after it.
 #[derive(Clone, Copy)]
 pub(crate) struct Span {
-    pub class: u8,
+    pub class: Class,
     pub first: u32,
     pub end: u32,
 }
 
-pub(crate) fn span_of(plan: &[u8], cs: &[u8; 32], b: u8) -> Span
-    requires classed { Classed plan.now cs.now }
-    requires b_bound { b < blocks_of plan.now }
-    requires b_value { is_period plan.now b ≡ true }
-    ensures { result ≡ span_of plan.now b }
-{
-    let block = block_of(plan, b as u16);
-    Span {
-        class: cs[b as usize],
-        first: first_of(block),
-        end: day_after(block),
+impl ClassedPlan<'_> {
+    // Does block b begin a period with doses?
+    fn is_dosed(self, b: u8) -> bool
+        requires { b < blocks_of self.plan.now }
+        ensures { result ≡ is_dosed self.entry.plan.now b }
+    {
+        is_period(self.plan, b) & !self.class_at(b).is_empty()
     }
-}
 
-// The later of two days.
-pub(crate) fn later(x: u32, y: u32) -> u32
-    ensures { result ≡ max x y }
-{
-    if x < y { y } else { x }
+    // Rule 15. A period with doses, which a plan mostly begins with, ends the first search.
+    pub(crate) fn is_bare(self) -> bool
+        ensures { result ≡ bare self.entry.plan.now }
+    {
+        let n = self.blocks();
+        if (0..n).any(|b| self.is_dosed(b)) {
+            return false;
+        }
+        !(0..n).any(|b| is_period(self.plan, b)) | (vka_of(block_of(self.plan, 0)) != 1)
+    }
+
+    // Does block b begin a period of the group?
+    pub(crate) fn is_member(self, g: Group, b: u8) -> bool
+        requires { b < blocks_of self.plan.now }
+        ensures { result ≡ is_member g self.entry.plan.now b }
+    {
+        is_period(self.plan, b) & g.holds(self.class_at(b))
+    }
+
+    // The period at block b.
+    pub(crate) fn span_at(self, b: u8) -> Span
+        requires { (b < blocks_of self.plan.now) × (is_period self.plan.now b ≡ true) }
+        ensures { result ≡ span_of self.entry.plan.now b }
+    {
+        let block = block_of(self.plan, b as u16);
+        Span {
+            class: self.class_at(b),
+            first: first_of(block),
+            end: day_after(block),
+        }
+    }
 }

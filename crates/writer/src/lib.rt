@@ -12,7 +12,8 @@ use fill::{fill_continuation, fill_head, fill_period};
 use plan::{Dose, Head, Header, RECORD, record_start, write_dose};
 
 // Where the writing stands: the blocks begun, and the doses in the last of them.
-#[derive(Clone, Copy)]
+// Kept: a place beside the buffer, and no struct that holds both: `begin`, `add_period`, `add_dose` and `finish` take any buffer with any place.
+#[derive(Clone, Copy, Debug, PartialEq, Eq)]
 pub struct Place {
     pub blocks: u8,
     pub doses: u8,
@@ -21,18 +22,22 @@ pub struct Place {
 // The doses that a block has room for.
 const FULL: u8 = 20;
 
-// Is there room for a block behind that many?
-fn has_room(out: &[u8], blocks: u8) -> bool
-    ensures { result ≡ has_room out.now blocks }
-{
-    (blocks < 255) & (((blocks as usize) + 1) * SIZE <= out.len())
-}
+impl Place {
+    // Is there room for a block more?
+    #[tactic(auto, unfolding(crate::specs::Steps::has_room))]
+    fn has_room(self, out: &[u8]) -> bool
+        ensures { result ≡ has_room out.now self.blocks }
+    {
+        (self.blocks < 255) & (((self.blocks as usize) + 1) * SIZE <= out.len())
+    }
 
-// Are n blocks begun, and does the buffer have the bytes of all that are? A place that these calls gave says so by itself.
-fn has_begun(out: &[u8], blocks: u8, n: u8) -> bool
-    ensures { result ≡ has_begun out.now blocks n }
-{
-    (n <= blocks) & ((blocks as usize) * SIZE <= out.len())
+    // Are n blocks begun, and does the buffer have the bytes of all that are? A place that these calls gave says so by itself.
+    #[tactic(auto, unfolding(crate::specs::Steps::has_begun))]
+    fn has_begun(self, out: &[u8], n: u8) -> bool
+        ensures { result ≡ has_begun out.now self.blocks n }
+    {
+        (n <= self.blocks) & ((self.blocks as usize) * SIZE <= out.len())
+    }
 }
 
 // Begins a plan, with its head in block 0. A buffer with no room for that stays as it is.
@@ -45,9 +50,7 @@ pub fn begin(out: &mut [u8], head: Head) -> Place
             doses: 0,
         };
     }
-    let from: usize = 0;
-    let end = SIZE;
-    fill_head(&mut out[from..end], head);
+    fill_head(&mut out[..SIZE], head);
     Place {
         blocks: 1,
         doses: 0,
@@ -58,7 +61,7 @@ pub fn begin(out: &mut [u8], head: Head) -> Place
 pub fn add_period(out: &mut [u8], at: Place, header: Header) -> Place
     ensures { (out.new ≡ period_added out.old at header) × (result ≡ period_place out.old at) }
 {
-    if !has_room(&*out, at.blocks) {
+    if !at.has_room(out) {
         return at;
     }
     let from = (at.blocks as usize) * SIZE;
@@ -78,9 +81,8 @@ fn put_dose(out: &mut [u8], b: u8, n: u8, dose: Dose)
     let block = (b as usize) * SIZE;
     let from = block + record_start(n);
     let end = from + RECORD;
-    let count = [n + 1];
     write_dose(&mut out[from..end], dose);
-    put_bytes(&mut *out, block + 1, &count);
+    put_bytes(out, block + 1, &[n + 1]);
 }
 
 // Adds a dose to the last period: into the last block or, where that is full, into a continuation. Where that has no room, or
@@ -88,23 +90,23 @@ fn put_dose(out: &mut [u8], b: u8, n: u8, dose: Dose)
 pub fn add_dose(out: &mut [u8], at: Place, dose: Dose) -> Place
     ensures { (out.new ≡ dose_added out.old at dose) × (result ≡ dose_place out.old at) }
 {
-    if !has_begun(&*out, at.blocks, 2) {
+    if !at.has_begun(out, 2) {
         return at;
     }
     if at.doses < FULL {
-        put_dose(&mut *out, at.blocks - 1, at.doses, dose);
+        put_dose(out, at.blocks - 1, at.doses, dose);
         return Place {
             blocks: at.blocks,
             doses: at.doses + 1,
         };
     }
-    if !has_room(&*out, at.blocks) {
+    if !at.has_room(out) {
         return at;
     }
     let from = (at.blocks as usize) * SIZE;
     let end = from + SIZE;
     fill_continuation(&mut out[from..end]);
-    put_dose(&mut *out, at.blocks, 0, dose);
+    put_dose(out, at.blocks, 0, dose);
     Place {
         blocks: at.blocks + 1,
         doses: 1,
@@ -116,6 +118,7 @@ fn seal_blocks(out: &mut [u8], n: u8)
     requires { n * 512 ≤ length out.old }
     ensures { out.new ≡ sealed_from n 0 out.old }
 {
+    // Kept: by the block's number, since of a loop over `chunks_exact_mut` no proof says what the buffer holds afterwards.
     for b in 0..n {
         let from = (b as usize) * SIZE;
         let end = from + SIZE;
@@ -127,11 +130,10 @@ fn seal_blocks(out: &mut [u8], n: u8)
 pub fn finish(out: &mut [u8], at: Place) -> u32
     ensures { (out.new ≡ finished out.old at) × (result ≡ finished_length out.old at) }
 {
-    if !has_begun(&*out, at.blocks, 1) {
+    if !at.has_begun(out, 1) {
         return 0;
     }
-    let further = [at.blocks - 1];
-    put_bytes(&mut *out, 1, &further);
-    seal_blocks(&mut *out, at.blocks);
+    put_bytes(out, 1, &[at.blocks - 1]);
+    seal_blocks(out, at.blocks);
     (at.blocks as u32) * 512
 }

@@ -1,5 +1,6 @@
 -- The two running sums, several words a turn. proofs/Turns.antt shows that turns come to the sums of the words one by one.
-use Rattle.std.specs.Prelude.{◌≡◌, ℕ, ◌+◌, ◌*◌, ◌%◌, ◌^◌, ◌<◌, List, length, slice_index}
+use Rattle.std.specs.Prelude.{◌≡◌, ℕ, ◌+◌, ◌*◌, ◌%◌, ◌^◌, List, map}
+use Rattle.std.specs.List.{range_with_len}
 use Rattle.block.specs.Sums.{summed}
 use Rattle.block.specs.declared.Sums.{Sums}
 
@@ -15,9 +16,6 @@ turned n s t =
       second = (s.second + n * s.first + t.second) % 2 ^ 32;
     }
 
--- the first n turns, of six words each, have these sums by themselves
-pub record TurnsTo (b : List ℕ) (n : ℕ) (first second : List ℕ) : Type 0 where
-  pub long_first : length first ≡ 21
-  pub long_second : length second ≡ 21
-  pub first_is : (k : ℕ) → k < n → slice_index first k ≡ (summed no_sums b (k * 24) 6).first
-  pub second_is : (k : ℕ) → k < n → slice_index second k ≡ (summed no_sums b (k * 24) 6).second
+-- the 21 turns, of six words each, have these sums by themselves
+unfoldable pub TurnsTo : List ℕ → List Sums → Type 0
+TurnsTo b turns = turns ≡ map (λ k. summed no_sums b (k * 24) 6) (range_with_len 0 21)

@@ -2,5 +2,5 @@
 use Rattle.std.proofs.Common.{length}
 use Rattle.cases.proofs.report_all.Given as goal
 
-abbrev pub decreases-loop-rest : goal.decreases-loop-rest
-decreases-loop-rest g l = length l.rest
+abbrev pub decreases-loop-length : goal.decreases-loop-length
+decreases-loop-length g l = length l.rest

@@ -17,7 +17,7 @@ rule-5 : (c : After-is_outside) → c.is_outside.result ≡ outside c.args.plan.
 rule-5 c = c.is_outside.ensures c.args.plan.now c.args.b (c.header_of-head.ensures ∙ ap header_of c.block_of.ensures) (c.header_of-h.ensures ∙ ap header_of c.block_of-2.ensures)
 
 pub returns-then-is_outside : goal.returns-then-is_outside
-returns-then-is_outside c = (ruling.is_5 c.args.plan.now c.args.b (sym (rule-5 (goal.at.returns-then-is_outside c).After-is_outside) ∙ c.if-is_outside.true), c.class_of.ensures.0, search rules, c.class_of.ensures.1)
+returns-then-is_outside c = (ruling.is_5 c.args.plan.now c.args.b (sym (rule-5 (goal.at.returns-then-is_outside c).After-is_outside) ∙ c.if-is_outside.true), c.class_of.ensures, search rules)
 
 pub is_early-requires : goal.is_early-requires
 is_early-requires c = ap (λ (h : Header). h.first) (header (goal.at.is_early-requires c).After-header_of-h)
@@ -25,14 +25,16 @@ is_early-requires c = ap (λ (h : Header). h.first) (header (goal.at.is_early-re
 pub returns-then-is_early : goal.returns-then-is_early
 returns-then-is_early c = let inside = sym (rule-5 (goal.at.returns-then-is_early c).After-is_outside) ∙ c.if-is_outside.false in
     let early = sym c.is_early.ensures ∙ c.if-is_early.true in
-    (ruling.is_6 c.args.plan.now c.args.b inside early, c.class_of-then-is_early.ensures.0, search rules, c.class_of-then-is_early.ensures.1)
+    (ruling.is_6 c.args.plan.now c.args.b inside early, c.class_of-then-is_early.ensures, search rules)
 
-pub judge_doses-requires : goal.judge_doses-requires
-judge_doses-requires c = let a = c.args in
-    let n = c.doses_of-n.ensures in
-    let inside = sym (rule-5 (goal.at.judge_doses-requires c).After-is_outside) ∙ c.if-is_outside.false in
+pub with_header-requires : goal.with_header-requires
+with_header-requires c = header (goal.at.with_header-requires c).After-header_of-h
+
+pub judge-requires : goal.judge-requires
+judge-requires c = let a = c.args in
+    let inside = sym (rule-5 (goal.at.judge-requires c).After-is_outside) ∙ c.if-is_outside.false in
     let in-turn = sym c.is_early.ensures ∙ c.if-is_early.false in
-    (n.0, n.1, c.limit_of.ensures (block_at a.plan.now a.b) (header (goal.at.judge_doses-requires c).After-header_of-h), ruling.to_7 a.plan.now a.b inside in-turn)
+    rw (c.with_header.ensures.0, c.with_header.ensures.1) (ruling.to_7 a.plan.now a.b inside in-turn)
 
 pub returns : goal.returns
-returns c = c.judge_doses.ensures
+returns c = rw (c.with_header.ensures.0, c.with_header.ensures.1) at c.judge.ensures

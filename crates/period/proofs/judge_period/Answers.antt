@@ -30,17 +30,17 @@ slice_bounds-header_of-end c = sym (length-take-le 512 c.args.plan.now (omega ar
 pub is_early-requires : goal.is_early-requires
 is_early-requires c = ap (λ (h : Header). h.first) (header (goal.at.is_early-requires c).After-header_of-h)
 
-pub glance-seen-requires : goal.glance-seen-requires
-glance-seen-requires c = let n = c.doses_of-n.ensures in (n.0, n.1, c.limit_of.ensures (block_at c.args.plan.now c.args.b) (header (goal.at.glance-seen-requires c).After-header_of-h))
+pub with_header-doses-requires : goal.with_header-doses-requires
+with_header-doses-requires c = header (goal.at.with_header-doses-requires c).After-header_of-h
 
-pub returns-then-seen : goal.returns-then-seen
-returns-then-seen c = let a = c.args in
-    let inside = sym (rule-5 (goal.at.returns-then-seen c).After-is_outside) ∙ c.if-is_outside.false in
+pub returns-in-Some : goal.returns-in-Some
+returns-in-Some c = let a = c.args in
+    let doses = c.with_header-doses in
+    let e = doses.ensures in
+    let inside = sym (rule-5 (goal.at.returns-in-Some c).After-is_outside) ∙ c.if-is_outside.false in
     let in-turn = sym c.is_early.ensures ∙ c.if-is_early.false in
-    let seen = c.glance-seen.ensures in
-    let fine = c.if-seen.true in (
-      ruling.none_is a.plan.now a.b (seen.0 fine (ruling.to_7 a.plan.now a.b inside in-turn)),
-      c.class_by.ensures.0 ∙ ruling.class_counted a.plan.now a.b c.doses_of-n.ensures.0 (seen.1 fine),
+    let seen = c.in-Some.ensures in (
+      ruling.none_is a.plan.now a.b ((rw (e.0, e.1) at seen.unbroken) (ruling.to_7 a.plan.now a.b inside in-turn)),
+      c.class_by.ensures ∙ ruling.class_counted a.plan.now a.b (rw (e.0, e.1) at doses.result.counted) (rw (e.0, e.1) at seen.marked),
       search rules,
-      c.class_by.ensures.1,
     )

@@ -15,7 +15,7 @@ is_any_day D s n = ltb 0 n && eqb (D 0).day 0 && (ltb s.marked n || not (eqb s.d
 
 -- there are doses of kind 0 and of kinds 1 to 4
 abbrev pub is_both : Walk → Bool
-is_both s = (ltb 0 s.fixed || ltb 0 s.need) && s.timed
+is_both s = (ltb 0 s.fixed.at || ltb 0 s.need.at) && s.timed
 
 -- the limit, or else the last day number of an unmarked dose, which is their largest, at least 1
 abbrev pub round_by : Walk → ℕ → ℕ

@@ -1,6 +1,6 @@
 -- The quick pass over a period's doses D 0, D 1, .., as the code makes it. No rule is stated here: proofs/QuickPass.antt shows that
 -- what it lets through breaks none.
-use Rattle.std.specs.Prelude.{ℕ, ◌+◌, ◌*◌, ◌/◌, ◌≤◌, ◌<◌, min, Bool, true, false, cond, not, ◌&&◌, ◌||◌, ◌≡◌, eqb, leb, ltb}
+use Rattle.std.specs.Prelude.{ℕ, ◌+◌, ◌*◌, ◌/◌, ◌≤◌, ◌<◌, max, min, Bool, false, cond, not, ◌&&◌, ◌||◌, ◌≡◌, eqb, leb, ltb}
 use Rattle.plan.specs.declared.Dose.{Dose}
 use Rattle.below.specs.Below.{count_below, sum_below}
 use Rattle.plan.specs.Fields.{is_marked}
@@ -20,7 +20,6 @@ abbrev pub quick_begun : Quick
 quick_begun =
     record {
       rank = 0;
-      fine = true;
       untimed = 0;
       marked = 0;
       total = 0;
@@ -31,7 +30,6 @@ unfoldable pub quick_turned : Quick → Dose → ℕ → ℕ → Quick
 quick_turned s d rank upper =
     record {
       rank = rank;
-      fine = true;
       untimed = s.untimed + cond (is_untimed d) 1 0;
       marked = s.marked + cond (is_marked d) 1 0;
       total = s.total + cond (is_marked d) 0 upper;
@@ -67,7 +65,7 @@ may_both s n = ltb 0 s.untimed && ltb s.untimed n
 
 -- the sum reaches 100,000,000,000 times the limit, or that itself where there is none
 abbrev pub may_too_much : Quick → ℕ → Bool
-may_too_much s limit = leb (100000000000 * cond (eqb limit 0) 1 limit) s.total
+may_too_much s limit = leb (100000000000 * max 1 limit) s.total
 
 -- no block's first dose has the day number of the first dose four blocks behind
 abbrev pub Apart : (ℕ → Dose) → ℕ → Type 0

@@ -1,10 +1,11 @@
 -- The one pass over a period's doses D 0, D 1, .., as the code makes it. No rule is stated here: proofs/Walked.antt shows that
 -- what the pass keeps is what the rules of Doses say.
-use Rattle.std.specs.Prelude.{ℕ, zero, suc, ◌+◌, ◌-◌, ◌*◌, ◌/◌, ◌%◌, ◌≤◌, Bool, false, cond, not, ◌&&◌, ◌||◌, List, ◌≡◌, eqb, leb, ltb}
+use Rattle.std.specs.Prelude.{ℕ, zero, suc, ◌+◌, ◌-◌, ◌*◌, ◌/◌, ◌%◌, ◌≤◌, min, Bool, false, cond, not, ◌&&◌, ◌||◌, List, ◌≡◌, eqb, leb, ltb}
 use Rattle.std.specs.Bool.{beq}
 use Rattle.plan.specs.declared.Dose.{Dose}
 use Rattle.plan.specs.Fields.{is_marked}
 use Rattle.plan.specs.Periods.{dose_in}
+use Rattle.period.specs.declared.turn.Last.{Last}
 use Rattle.period.specs.declared.turn.Walk.{Walk}
 use Rattle.period.specs.Doses.{is_timed, is_untimed, bad_range, unmarked_upper}
 
@@ -41,9 +42,7 @@ is_like d e = is_untimed d && is_untimed e && beq (is_marked d) (is_marked e)
 abbrev pub is_other : Walk → Dose → ℕ → Bool
 is_other s d j =
     let last = cond (is_marked d) s.need s.fixed in
-    let low = cond (is_marked d) s.need_low s.fixed_low in
-    let high = cond (is_marked d) s.need_high s.fixed_high in
-    is_untimed d && ltb (from_of s d j) last && not (eqb low d.low && eqb high d.high)
+    is_untimed d && ltb (from_of s d j) last.at && not (eqb last.low d.low && eqb last.high d.high)
 
 -- dose j breaks a rule that the pass looks for
 abbrev pub is_asked : Walk → Dose → ℕ → Bool
@@ -53,14 +52,10 @@ is_asked s d j = ltb d.day s.day || is_crowded s d j || is_other s d j || bad_ra
 abbrev pub lowest : Bool → Bool → Bool → Bool → ℕ
 lowest t7 t9 t11 t13 = cond t7 7 (cond t9 9 (cond t11 11 (cond t13 13 14)))
 
--- the lower of two rules
-abbrev pub lower : ℕ → ℕ → ℕ
-lower x y = cond (ltb x y) x y
-
 -- the lowest rule broken with dose j, which is d
 unfoldable pub rule_with : Walk → Dose → ℕ → ℕ
 rule_with s d j =
-    lower (lowest (ltb d.day s.day) (is_crowded s d j) (is_other s d j) (bad_range d)) s.rule
+    min (lowest (ltb d.day s.day) (is_crowded s d j) (is_other s d j) (bad_range d)) s.rule
 
 -- the same, with the tests told apart only where one holds
 unfoldable pub next_rule : Walk → Dose → ℕ → ℕ
@@ -73,12 +68,8 @@ begun =
       day = 0;
       from = 0;
       top = 0;
-      fixed = 0;
-      fixed_low = 0;
-      fixed_high = 0;
-      need = 0;
-      need_low = 0;
-      need_high = 0;
+      fixed = record { at = 0; low = 0; high = 0 };
+      need = record { at = 0; low = 0; high = 0 };
       timed = false;
       morning = 0;
       noon = 0;
@@ -99,6 +90,10 @@ is_fixed d = is_untimed d && not (is_marked d)
 abbrev pub is_need : Dose → Bool
 is_need d = is_untimed d && is_marked d
 
+-- what is kept of dose j, which is d
+abbrev pub kept_as : Dose → ℕ → Last
+kept_as d j = record { at = j + 1; low = d.low; high = d.high }
+
 -- the state with dose j, which is d, and the lowest rule broken with it
 unfoldable pub turned : Walk → Dose → ℕ → ℕ → Walk
 turned s d j rule =
@@ -106,12 +101,8 @@ turned s d j rule =
       day = d.day;
       from = from_of s d j;
       top = cond (is_clock d && ltb s.top (rank_of d)) (rank_of d) s.top;
-      fixed = cond (is_fixed d) (j + 1) s.fixed;
-      fixed_low = cond (is_fixed d) d.low s.fixed_low;
-      fixed_high = cond (is_fixed d) d.high s.fixed_high;
-      need = cond (is_need d) (j + 1) s.need;
-      need_low = cond (is_need d) d.low s.need_low;
-      need_high = cond (is_need d) d.high s.need_high;
+      fixed = cond (is_fixed d) (kept_as d j) s.fixed;
+      need = cond (is_need d) (kept_as d j) s.need;
       timed = s.timed || is_timed d;
       morning = cond (eqb d.kind 1) (j + 1) s.morning;
       noon = cond (eqb d.kind 2) (j + 1) s.noon;

@@ -1,18 +1,11 @@
-use mathlib.Core.Path.{ap, ◌∙◌}
-use borrow.Author.Tests.{lt-ltb, le-ltb, eq-eqb, ne_eqb}
-use Rattle.refusal.specs.Refusals.{code_of}
-use Rattle.register.specs.Steps.{Answered}
+use mathlib.Core.Path.{ap, sym, ◌∙◌}
+use Rattle.refusal.specs.Refusals.{code_in}
+use borrow.Author.Tests.{le-ltb}
+use Rattle.register.specs.Paper.{stated}
+use Rattle.register.proofs.Answering.{code_answered}
+use Rattle.screen.proofs.chivetassel_state.Goals.{in-Ok, in_default}
 use Rattle.screen.proofs.chivetassel_state.Goals as goal
 
-pub returns-then-out-lt16 : goal.returns-then-out-lt16
-returns-then-out-lt16 c = let h = lt-ltb _ _ c.if-out-lt16.true in record { value = rw h (c.code.ensures ∙ ap code_of c.alone.ensures); out_after = rw h }
-
-pub returns-then-x-ne0 : goal.returns-then-x-ne0
-returns-then-x-ne0 c = let h = le-ltb _ _ c.if-out-lt16.false in
-    let s = c.state_of-x.ensures in
-    record { value = rw h (c.code-then-x-ne0.ensures ∙ ap (λ (a : Answered). code_of a.refusal) s.answer); out_after = rw (h, ← s.answer, ne_eqb _ 0 c.if-x-ne0.true) }
-
-pub returns : goal.returns
-returns c = let h = le-ltb _ _ c.if-out-lt16.false in
-    let s = c.state_of-x.ensures in
-    record { value = rw h (c.code-2.ensures ∙ ap (λ (a : Answered). code_of a.refusal) s.answer); out_after = rw (h, ← s.answer, eq-eqb _ 0 c.if-x-ne0.false) c.put_two.ensures }
+pub returns-clause-value : goal.returns-clause-value
+returns-clause-value c = let code = code_answered stated _ _ c.state_of-answer.ensures.answer in
+    rw (le-ltb _ _ c.if-out-lt16.false) (c.code_in.ensures ∙ elim c.match-answer.branch [ in-Ok w ↦ ap code_in (w.answer-is ∙ sym w.in-Ok.is) ∙ code | in_default w ↦ rw w.answer-is code ])

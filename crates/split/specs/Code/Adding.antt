@@ -1,27 +1,14 @@
 -- What the calls that write a part add to it, wherever the writing stands. No rule is stated here.
-use Rattle.std.specs.Prelude.{ℕ, ◌+◌, ◌-◌, ◌≤◌, Bool, cond, not, ◌&&◌, List, [], ◌∷◌, ◌++◌, eqb, length}
-use Rattle.below.specs.Below.{any_below}
+use Rattle.std.specs.Prelude.{ℕ, ◌+◌, ◌-◌, ◌≤◌, Bool, List, [], ◌∷◌, ◌++◌, length}
 use Rattle.below.specs.Lists.{list_below, keep, join_over}
 use Rattle.block.specs.Bytes.{put}
 use Rattle.plan.specs.declared.Dose.{Dose}
 use Rattle.plan.specs.Fields.{record_at, dose_of, dose_bytes, record_start}
-use Rattle.plan.specs.Periods.{blocks_of, is_period, fixed, need, class_of}
 use Rattle.layout.specs.Layout.{Written, body_of}
 use Rattle.plan.specs.declared.Head.{Head}
 use Rattle.writer.specs.declared.Place.{Place}
 use Rattle.writer.specs.Code.Holds.{Holds}
 use Rattle.split.specs.Parts.{is_of_part}
-
--- the class that has doses of the part alone
-abbrev pub own_class : Bool → ℕ
-own_class marked = cond marked need fixed
-
--- the period at block b has other doses too, or none; and no period has
-abbrev pub is_other : Bool → List ℕ → ℕ → Bool
-is_other marked p b = is_period p b && not (eqb (class_of p b) (own_class marked))
-
-unfoldable pub is_alone : Bool → List ℕ → Bool
-is_alone marked p = not (any_below (blocks_of p) (is_other marked p))
 
 -- a buffer that held `old` at first has room for these periods
 abbrev pub HasRoom : List ℕ → List Written → Type 0

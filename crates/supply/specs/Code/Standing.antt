@@ -1,12 +1,11 @@
 -- What the walk counts on, and what it keeps from day to day. No answer is stated by these.
-use Rattle.std.specs.Prelude.{ℕ, ◌+◌, ◌≤◌, ◌<◌, min, ◌≡◌, Bool, true, false, cond, not, ◌&&◌, ◌||◌, List, eqb, ltb}
+use Rattle.std.specs.Prelude.{ℕ, ◌+◌, ◌≤◌, ◌<◌, min, ◌≡◌, Bool, true, false, cond, not, ◌&&◌, List, eqb, ltb, Option, Some, None, MatchOption, IfSome}
 use Rattle.below.specs.Below.{first_below, sum_below}
 use Rattle.doses.specs.Doses.{covers, position_of, applies}
 use Rattle.need.specs.Need.{chosen, due_on}
 use Rattle.plan.specs.Fields.{interval_of, first_of, last_of, header_of}
 use Rattle.plan.specs.Periods.{blocks_of, block_at, is_period, doses_of, dose_in}
-use Rattle.supply.specs.Steps.{is_chosen, is_alone}
-use Rattle.supply.specs.declared.place.Candidate.{Candidate}
+use Rattle.supply.specs.Steps.{is_alone}
 use Rattle.supply.specs.declared.place.Period.{Period}
 use Rattle.supply.specs.declared.place.Place.{Place}
 use Rattle.supply.specs.declared.rounds.Round.{Round}
@@ -77,15 +76,14 @@ position_behind k x = cond (eqb x k) 1 (x + 1)
 abbrev pub dose_from : ℕ → ℕ → ℕ
 dose_from x behind = cond (eqb x 1) 0 behind
 
--- in the period t each day needs what the one ahead of it needs
-abbrev pub is_still : Period → Bool
-is_still t = not t.any || eqb t.interval 1
+-- in the period each day needs what the one ahead of it needs
+abbrev pub is_still : Option Period → Bool
+is_still None = true
+is_still (Some t) = eqb t.interval 1
 
--- r is where the day behind that of s stands in the period t
-pub record Moved (choice : ℕ) (p : List ℕ) (t : Period) (s r : Place) : Type 0 where
-  pub none : t.any ≡ false → r ≡ s
-  pub placed : t.any ≡ true → Placed choice p t r
-  pub position_is : t.any ≡ true → r.position ≡ position_behind t.interval s.position
+-- r is where the day behind that of s stands in the period, if there is one
+abbrev pub Moved : ℕ → List ℕ → Option Period → Place → Place → Type 0
+Moved choice p t s r = MatchOption t (r ≡ s) (λ t. Placed choice p t r × (r.position ≡ position_behind t.interval s.position))
 
 -- the period t, which has begun by day d, is as the walk counts on
 pub record InPeriod (choice : ℕ) (p : List ℕ) (d : ℕ) (t : Period) : Type 0 where
@@ -95,24 +93,26 @@ pub record InPeriod (choice : ℕ) (p : List ℕ) (d : ℕ) (t : Period) : Type 
   pub interval_is : t.interval ≡ interval_of (block_at p t.b)
   pub began : first_of (block_at p t.b) ≤ d
 
--- s is where day d stands in the period t, if there is one
-pub record Stands (choice : ℕ) (p : List ℕ) (d : ℕ) (t : Period) (s : Place) : Type 0 where
-  pub none : t.any ≡ false → s.due ≡ 0
-  pub placed : t.any ≡ true → Placed choice p t s
-  pub position_is : t.any ≡ true → s.position ≡ position_of (header_of (block_at p t.b)) d
-  pub began : t.any ≡ true → first_of (block_at p t.b) ≤ d
+-- s is where day d stands in the period t
+pub record StandsIn (choice : ℕ) (p : List ℕ) (d : ℕ) (t : Period) (s : Place) : Type 0 where
+  pub placed : Placed choice p t s
+  pub position_is : s.position ≡ position_of (header_of (block_at p t.b)) d
+  pub began : first_of (block_at p t.b) ≤ d
 
--- t is the period at block b, or none where there is no such block
-pub record IsAt (choice : ℕ) (p : List ℕ) (b : ℕ) (t : Candidate) : Type 0 where
-  pub block : b < blocks_of p → (t.any ≡ true) × (t.b ≡ b)
-  pub chosen_is : b < blocks_of p → is_period p b ≡ true → t.chosen ≡ is_chosen choice p b
-  pub doses_is : b < blocks_of p → t.doses ≡ doses_of p b
-  pub interval_is : b < blocks_of p → t.interval ≡ interval_of (block_at p b)
-  pub past : blocks_of p ≤ b → (t.any ≡ false) × (t.chosen ≡ false)
+-- the same, if there is one
+abbrev pub Stands : ℕ → List ℕ → ℕ → Option Period → Place → Type 0
+Stands choice p d t s = MatchOption t (s.due ≡ 0) (λ t. StandsIn choice p d t s)
 
--- the period t if it has doses of the choice, and else none
-abbrev pub kept_of : Candidate → Period
-kept_of t = record { any = t.any && t.chosen; b = t.b; doses = t.doses; interval = t.interval }
+-- the period at block b, and whether there is one
+abbrev pub period_of : List ℕ → ℕ → Period
+period_of p b = record { b = b; doses = doses_of p b; interval = interval_of (block_at p b) }
+
+abbrev pub period_at : List ℕ → ℕ → Option Period
+period_at p b = cond (ltb b (blocks_of p)) (Some (period_of p b)) None
+
+-- the period if it has doses of the choice, and else none
+abbrev pub kept_of : Option Period → Bool → Option Period
+kept_of t chosen = cond chosen t None
 
 -- the test says yes on each day from d to u, and no on the one behind
 pub record Reach (test : ℕ → Bool) (d u : ℕ) : Type 0 where
@@ -131,25 +131,29 @@ pub record Rounded (choice : ℕ) (p : List ℕ) (d : ℕ) (r : Round) : Type 0 
   pub reach : 0 < r.interval → Reach (is_alone choice p (alone_on choice p d)) d r.until
 
 -- a period's doses can be counted; in rounds of one day they come to what the day needs
-pub record Counts (choice : ℕ) (p : List ℕ) (t : Candidate) (due : ℕ) : Type 0 where
+pub record Counts (choice : ℕ) (p : List ℕ) (t : Period) (due : ℕ) : Type 0 where
   pub small : Small choice p t.b
   pub all : t.doses ≡ doses_of p t.b
   pub day : t.interval ≡ 1 → due ≡ round_need choice p t.b
 
 -- the rounds of a period, if no other with doses of the choice begins up to day `clear`
-abbrev pub rounds_of : ℕ → List ℕ → ℕ → Candidate → Round
+abbrev pub rounds_of : ℕ → List ℕ → ℕ → Period → Round
 rounds_of choice p clear t = record { need = round_need choice p t.b; interval = t.interval; until = min (last_of (block_at p t.b)) clear }
 
--- those of an iterated one of two, where the other has no doses of the choice
-abbrev pub rounds_on : ℕ → List ℕ → ℕ → Candidate → Candidate → Round
-rounds_on choice p clear one other =
-    cond ((one.any && ltb 0 one.interval) && not other.chosen) (rounds_of choice p clear one)
-    (cond ((other.any && ltb 0 other.interval) && not one.chosen) (rounds_of choice p clear other)
-    (record { need = 0; interval = 0; until = 0 }))
+-- the period, if it is iterated, and another, if there is one, has no doses of the choice
+abbrev pub free_of : Option Period → Bool → Option Period
+free_of None crowded = None
+free_of (Some t) crowded = cond (ltb 0 t.interval && not crowded) (Some t) None
+
+-- its rounds; where there is no period there are none
+abbrev pub rounds_on : ℕ → List ℕ → ℕ → Option Period → Round
+rounds_on choice p clear None = record { need = 0; interval = 0; until = 0 }
+rounds_on choice p clear (Some t) = rounds_of choice p clear t
 
 -- what a period needs on a day, if there is one
-abbrev pub need_in : ℕ → List ℕ → Period → ℕ → ℕ
-need_in choice p t d = cond t.any (need_of choice p t.b d) 0
+abbrev pub need_in : ℕ → List ℕ → Option Period → ℕ → ℕ
+need_in choice p None d = 0
+need_in choice p (Some t) d = need_of choice p t.b d
 
 -- t is where day d stands in its periods with doses of the choice, and up to day `until` they stay. What a period
 -- needs is its own: the other has no part in it
@@ -160,7 +164,7 @@ pub record Known (choice : ℕ) (p : List ℕ) (d : ℕ) (t : Today) : Type 0 wh
   pub second : Stands choice p d t.second t.in_second
   pub sum : (e : ℕ) → d ≤ e → e ≤ t.until → due_on choice p e ≡ need_in choice p t.first e + need_in choice p t.second e
   pub rounded : (e : ℕ) → d ≤ e → e ≤ t.until → Rounded choice p e t.rounds
-  pub whose : 0 < t.rounds.interval → (t.first.any ≡ true → t.first.interval ≡ t.rounds.interval) × (t.second.any ≡ true → t.second.interval ≡ t.rounds.interval)
+  pub whose : 0 < t.rounds.interval → IfSome t.first (λ x. x.interval ≡ t.rounds.interval) × IfSome t.second (λ x. x.interval ≡ t.rounds.interval)
 
 -- r is the day behind that of t, in the same periods
 pub record Behind (choice : ℕ) (p : List ℕ) (t r : Today) : Type 0 where
@@ -181,12 +185,3 @@ pub record Next (p : List ℕ) (d lo b : ℕ) : Type 0 where
   pub behind : lo ≤ b
   pub before : (k : ℕ) → lo ≤ k → k < b → covers p d k ≡ false
   pub here : b < blocks_of p → covers p d b ≡ true
-
--- day d is in the periods `one` and `other`, if there are such, and in no others
-pub record InBoth (choice : ℕ) (p : List ℕ) (d : ℕ) (one other : Candidate) : Type 0 where
-  pub b : ℕ
-  pub c : ℕ
-  pub first : Next p d 0 b
-  pub second : Next p d (b + 1) c
-  pub one_is : IsAt choice p b one
-  pub other_is : IsAt choice p c other

@@ -8,8 +8,6 @@ use Rattle.pause.specs.declared.Sight.{Sight}
 use Rattle.supply.specs.Steps.{State, steps_of, after}
 use Rattle.supply.specs.Code.Standing.{Orderly, Known}
 use Rattle.supply.specs.declared.Lasting.{Lasting}
-use Rattle.supply.specs.declared.Supply.{Supply}
-use Rattle.supply.specs.declared.Supply.TheVariants.{Lasts, Refused}
 use Rattle.supply.specs.declared.taking.Stride.{Stride}
 use Rattle.supply.specs.declared.walk.Walk.{Walk}
 
@@ -32,12 +30,11 @@ pub record Able (choice : ℕ) (p : List ℕ) (w : Walk) : Type 0 where
   pub looks : Looking choice p w
   pub known : Known choice p w.day w.today
 
--- a walk that is ready: it stands on its first day, or is refused and over
+-- a walk that is ready: it stands on its first day
 pub record Ready (choice : ℕ) (p : List ℕ) (w : Walk) : Type 0 where
-  pub over : w.refused ≡ true → w.going ≡ false
-  pub goes : w.refused ≡ false → w.going ≡ true
-  pub first : w.refused ≡ false → (w.day ≡ w.start) × (w.count ≡ 0)
-  pub at : w.refused ≡ false → Going choice p w
+  pub day_is : w.day ≡ w.start
+  pub count_is : w.count ≡ 0
+  pub at : Going choice p w
 
 -- s is what the pauses say from day d on: whether it is paused, and up to which day the days are as it is
 pub record Seen (ps : List Pause) (d : ℕ) (s : Sight) : Type 0 where
@@ -87,8 +84,6 @@ pub record Stays (choice : ℕ) (p : List ℕ) (w : Walk) (x : Stride) : Type 0 
 
 -- r is the walk w, and knows where its day stands
 pub record Stood (choice : ℕ) (p : List ℕ) (w r : Walk) : Type 0 where
-  pub refused_is : r.refused ≡ w.refused
-  pub refusal_is : r.refusal ≡ w.refusal
   pub going_is : r.going ≡ w.going
   pub chosen_is : r.chosen ≡ w.chosen
   pub start_is : r.start ≡ w.start
@@ -100,8 +95,6 @@ pub record Stood (choice : ℕ) (p : List ℕ) (w r : Walk) : Type 0 where
 
 -- r is the walk w after the days of x, which needed what x says
 pub record Advanced (choice : ℕ) (p : List ℕ) (w : Walk) (x : Stride) (r : Walk) : Type 0 where
-  pub refused_is : r.refused ≡ w.refused
-  pub refusal_is : r.refusal ≡ w.refusal
   pub chosen_is : r.chosen ≡ w.chosen
   pub start_is : r.start ≡ w.start
   pub stop_is : r.stop ≡ w.stop
@@ -125,8 +118,6 @@ left w = w.stop + 1 - w.day + cond w.going 1 0
 
 -- r goes on with the walk w, to the same outcome
 pub record Onward (choice : ℕ) (p : List ℕ) (ps : List Pause) (w r : Walk) : Type 0 where
-  pub refused_is : r.refused ≡ w.refused
-  pub refusal_is : r.refusal ≡ w.refusal
   pub start_is : r.start ≡ w.start
   pub stop_is : r.stop ≡ w.stop
   pub begun : r.start ≤ r.day
@@ -155,13 +146,7 @@ lasting_at w =
 
 -- r is where the walk w ends: in the state after the last step
 pub record Ended (choice : ℕ) (p : List ℕ) (ps : List Pause) (w r : Walk) : Type 0 where
-  pub refused_is : r.refused ≡ w.refused
-  pub refusal_is : r.refusal ≡ w.refusal
-  pub begun : w.refused ≡ false → r.start ≤ r.day
+  pub begun : r.start ≤ r.day
   pub start_is : r.start ≡ w.start
   pub stop_is : r.stop ≡ w.stop
-  pub state_is : w.refused ≡ false → state_of r ≡ steps_of choice p ps w.start w.stop w.rest
-
--- the answer of a walk that is over
-abbrev pub ended_of : Walk → Supply
-ended_of w = cond w.refused (Refused w.refusal) (Lasts (lasting_at w))
+  pub state_is : state_of r ≡ steps_of choice p ps w.start w.stop w.rest

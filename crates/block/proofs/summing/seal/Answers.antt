@@ -1,11 +1,11 @@
-use Rattle.std.proofs.Common.{eq-eqb, ne_eqb}
+use Rattle.std.proofs.Common.{length, eq-eqb, ne_eqb, rules}
 use Rattle.block.specs.Sums.{sealed}
 use Rattle.block.proofs.summing.seal.Goals as goal
 
-pub returns-then-b-ne-SIZE : goal.returns-then-b-ne-SIZE
+pub returns-in_default : goal.returns-in_default
 unfolding sealed
-returns-then-b-ne-SIZE c = rw (ne_eqb _ _ c.if-b-ne-SIZE.true)
+returns-in_default c = let h = c.in_default.ensures in rw (ne_eqb (length c.args.b.now) 512 (search rules))
 
 pub returns : goal.returns
 unfolding sealed
-returns c = rw (eq-eqb _ _ c.if-b-ne-SIZE.false) (cc)
+returns c = rw (eq-eqb (length c.args.b.now) 512 (search rules)) (search rules)

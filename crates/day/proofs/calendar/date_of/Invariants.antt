@@ -3,8 +3,5 @@ use mathlib.Core.Path.{◌≡◌}
 use Rattle.day.specs.Calendar.{year_start}
 use Rattle.day.proofs.calendar.date_of.Given as goal
 
-abbrev pub invariant-loop-k : goal.invariant-loop-k
-invariant-loop-k l = (l.k ≤ 200) × (year_start l.k + l.rest ≡ l.initial.rest)
-
-abbrev pub decreases-loop-k : goal.decreases-loop-k
-decreases-loop-k l = 200 - l.k
+abbrev pub invariant-loop-year : goal.invariant-loop-year
+invariant-loop-year l = (2000 ≤ l.year) × (l.year ≤ 2200) × (year_start (l.year - 2000) + l.rest ≡ l.initial.rest)

@@ -1,15 +1,18 @@
-use borrow.Author.Tests.{eq-eqb, ne_eqb}
+use borrow.Author.Rules.{rules}
+use borrow.Author.Tests.{ne_eqb}
+use mathlib.Core.Path.{sym, ◌∙◌}
 use Rattle.form.specs.Code.Front.{front_out}
 use Rattle.form.proofs.block_form.front_out.Goals as goal
 
-pub returns-then-kind-eq1 : goal.returns-then-kind-eq1
+pub returns-in-1 : goal.returns-in-1
 unfolding front_out
-returns-then-kind-eq1 c = rw (← c.kind_of-kind.ensures, eq-eqb _ _ c.if-kind-eq1.true) c.head_out.ensures
+returns-in-1 c = rw (sym c.kind_of.ensures ∙ c.in-1.is) c.head_out.ensures
 
-pub returns-then-kind-eq2 : goal.returns-then-kind-eq2
+pub returns-in-2 : goal.returns-in-2
 unfolding front_out
-returns-then-kind-eq2 c = rw (← c.kind_of-kind.ensures, ne_eqb _ _ c.if-kind-eq1.false, eq-eqb _ _ c.if-kind-eq2.true) c.period_out.ensures
+returns-in-2 c = rw (sym c.kind_of.ensures ∙ c.in-2.is) c.period_out.ensures
 
-pub returns : goal.returns
+pub returns-in_default : goal.returns-in_default
 unfolding front_out
-returns c = rw (← c.kind_of-kind.ensures, ne_eqb _ _ c.if-kind-eq1.false, ne_eqb _ _ c.if-kind-eq2.false) c.continuation_out.ensures
+returns-in_default c =
+    rw (← c.kind_of.ensures, ne_eqb c.kind_of.result 1 (search rules), ne_eqb c.kind_of.result 2 (search rules)) c.continuation_out.ensures

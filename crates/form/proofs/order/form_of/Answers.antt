@@ -1,66 +1,55 @@
-use Prim.Native.Nat.{◌<◌}
+use Rattle.std.specs.Prelude.{Err}
+use Rattle.std.proofs.Common.{rules, tests}
 use mathlib.Core.Path.{ap, ◌≡◌, sym, ◌∙◌}
-use native.Mathlib.Omega.{arith}
-use Rattle.below.proofs.Search.{none_more, first_facts}
 use Rattle.plan.specs.Periods.{blocks_of}
-use Rattle.refusal.proofs.Order.{Passed, block_none}
-use Rattle.refusal.specs.Order.{lowest_block}
-use Rattle.form.specs.Form.{form_breaks, form_of}
+use Rattle.form.specs.Form.{sums_wrong, misplaced, form_of}
+use Rattle.form.specs.Code.Found.{found_below}
 use Rattle.form.specs.Code.Front.{broken_at}
-use Rattle.form.specs.declared.Form.TheVariants.{Broken}
-use Rattle.form.proofs.Formed.{none_broken, lowest_broken}
-use Rattle.form.proofs.Laws.{whole, none_ahead, broken_is, right_by}
-use borrow.Author.Rules.{rules}
+use Rattle.form.proofs.Naming.{nothing_broken, named_2, passed_2, named_3, passed_3, named_4}
+use Rattle.form.proofs.Ranges.{find_in_range}
 use Rattle.form.proofs.order.form_of.Goals as goal
+use Rattle.form.proofs.order.form_of.Goals.{After-find, After-find-2, After-find-3}
+
+-- the three searches
+broken : (c : After-find) → found_below (blocks_of c.args.plan.now) (broken_at c.args.plan.now) ≡ c.find.result
+broken c =
+    let p = c.args.plan.now in
+    sym (find_in_range (blocks_of p) (broken_at p) _ _ _ _ c.find.ensures.ran (cc) (λ x q k. search (rules, tests)) (λ x q k. (search (rules, tests), search (rules, tests))))
+
+summed : (c : After-find-2) → found_below (blocks_of c.args.plan.now) (sums_wrong c.args.plan.now) ≡ c.find-2.result
+summed c =
+    let p = c.args.plan.now in
+    sym (find_in_range (blocks_of p) (sums_wrong p) _ _ _ _ c.find-2.ensures.ran (cc) (λ x q k. search (rules, tests)) (λ x q k. (search (rules, tests), search (rules, tests))))
+
+placed : (c : After-find-3) → found_below (blocks_of c.args.plan.now) (misplaced c.args.plan.now) ≡ c.find-3.result
+placed c =
+    let p = c.args.plan.now in
+    sym (find_in_range (blocks_of p) (misplaced p) _ _ _ _ c.find-3.ensures.ran (cc) (λ x q k. search (rules, tests)) (λ x q k. (search (rules, tests), search (rules, tests))))
 
 pub returns-then-bad_length : goal.returns-then-bad_length
 unfolding form_of
 returns-then-bad_length c = rw (sym c.bad_length.ensures ∙ c.if-bad_length.true) (cc)
 
-pub overflow_cast-n : goal.overflow_cast-n
-overflow_cast-n c = let a = c.args in
-    let w = whole a.limit a.plan.now (search rules) (sym c.bad_length.ensures ∙ c.if-bad_length.false) in
-    omega (arith, w)
+pub returns-in_default : goal.returns-in_default
+returns-in_default c = let a = c.args in
+    nothing_broken a.limit a.plan.now (sym c.bad_length.ensures ∙ c.if-bad_length.false) (broken (goal.at.returns-in_default c).After-find ∙ c.in_default.is)
 
-pub first_broken-first-requires : goal.first_broken-first-requires
-first_broken-first-requires c = let a = c.args in
-    whole a.limit a.plan.now (search rules) (sym c.bad_length.ensures ∙ c.if-bad_length.false)
+pub returns-in-Some-find : goal.returns-in-Some-find
+returns-in-Some-find c = let a = c.args in
+    ap Err c.of_rule-in-Some-find.ensures
+    ∙ named_2 a.limit a.plan.now (sym c.bad_length.ensures ∙ c.if-bad_length.false) (summed (goal.at.returns-in-Some-find c).After-find-2 ∙ c.in-Some-find.is)
 
-pub returns-then-n-first : goal.returns-then-n-first
-returns-then-n-first c = let a = c.args in
-    let p = a.plan.now in
-    let w = whole a.limit p (search rules) (sym c.bad_length.ensures ∙ c.if-bad_length.false) in
-    let e = c.first_broken-first.ensures in
-    right_by a.limit p (sym c.bad_length.ensures ∙ c.if-bad_length.false) (none_broken p (λ b l. (first_facts (broken_at p) (blocks_of p)).before b (omega (arith, w, e))))
-
-pub loop-k-init : goal.loop-k-init
-loop-k-init c = let a = c.args in
-    let w = whole a.limit a.plan.now (search rules) (sym c.bad_length.ensures ∙ c.if-bad_length.false) in
-    let e = c.first_broken-first.ensures in
-    (search rules, search rules, omega (arith, w), w, none_ahead a.plan.now, e, search rules)
-
-pub returns-then-b-n : goal.returns-then-b-n
-returns-then-b-n c = let a = c.args in
-    let l = c.loop-k in
-    let p = a.plan.now in
-    let h : lowest_block (blocks_of p) (form_breaks p) l.k < blocks_of p = omega arith in
-    ap Broken c.of_rule-then-b-n.ensures ∙
-    rw c.lowest_block-b.ensures
-    (broken_is a.limit p (sym c.bad_length.ensures ∙ c.if-bad_length.false) (omega arith) l.invariant.4 h)
-
-pub loop-k-preserved : goal.loop-k-preserved
-loop-k-preserved c = let l = c.loop-k in
-    let p = c.args.plan.now in
-    (search rules, search rules, search rules, l.invariant.3, none_more _ l.invariant.4 (block_none (blocks_of p) (form_breaks p) l.k (omega arith)), l.invariant.5, search rules)
+pub returns-in-Some-find-2 : goal.returns-in-Some-find-2
+returns-in-Some-find-2 c = let a = c.args in
+    let long = sym c.bad_length.ensures ∙ c.if-bad_length.false in
+    let two = passed_2 a.limit a.plan.now long (summed (goal.at.returns-in-Some-find-2 c).After-find-2 ∙ c.in_default-find.is) in
+    ap Err c.of_rule-in-Some-find-2.ensures
+    ∙ named_3 a.limit a.plan.now long two (placed (goal.at.returns-in-Some-find-2 c).After-find-3 ∙ c.in-Some-find-2.is)
 
 pub returns : goal.returns
 returns c = let a = c.args in
-    let l = c.loop-k in
-    let p = a.plan.now in
-    let e : l.k ≡ 4 = omega arith in
-    let passed : Passed (blocks_of p) (form_breaks p) 4 = rw e at l.invariant.4 in
-    let same = l.invariant.5 ∙ lowest_broken p passed in
-    let h : lowest_block (blocks_of p) (form_breaks p) 4 < blocks_of p = omega (arith, same, l.invariant.2, l.invariant.6) in
-    ap Broken c.of_rule-2.ensures ∙
-    rw same
-    (broken_is a.limit p (sym c.bad_length.ensures ∙ c.if-bad_length.false) (search rules) passed h)
+    let long = sym c.bad_length.ensures ∙ c.if-bad_length.false in
+    let two = passed_2 a.limit a.plan.now long (summed (goal.at.returns c).After-find-2 ∙ c.in_default-find.is) in
+    let three = passed_3 a.limit a.plan.now long two (placed (goal.at.returns c).After-find-3 ∙ c.in_default-find-2.is) in
+    ap Err c.of_rule-2.ensures
+    ∙ named_4 a.limit a.plan.now long three (broken (goal.at.returns c).After-find ∙ c.in-Some.is)

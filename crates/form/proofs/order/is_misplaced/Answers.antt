@@ -1,7 +1,8 @@
-use Prim.Native.Nat.{ℕ}
+use borrow.Author.Rules.{rules}
 use mathlib.Core.Bool.{not}
 use mathlib.Core.List.{List}
 use mathlib.Core.Path.{sym, ap, ◌∙◌}
+use Prim.Native.Nat.{ℕ}
 use borrow.Author.Tests.{eq-eqb, ne_eqb}
 use Rattle.plan.specs.Fields.{kind_of}
 use Rattle.form.specs.Form.{misplaced}
@@ -11,17 +12,17 @@ pub returns-then-b-eq0 : goal.returns-then-b-eq0
 unfolding misplaced
 returns-then-b-eq0 c = rw (eq-eqb _ _ c.if-b-eq0.true) c.no_head.ensures
 
-pub returns-then-kind-eq2 : goal.returns-then-kind-eq2
+pub returns-in-2 : goal.returns-in-2
 unfolding misplaced
-returns-then-kind-eq2 c = let k = ap (λ (x : List ℕ). kind_of x) (sym c.block_of.ensures) ∙ sym c.kind_of-kind.ensures in
-    rw (ne_eqb _ _ c.if-b-eq0.false, k, eq-eqb _ _ c.if-kind-eq2.true)
+returns-in-2 c = let k = ap (λ (x : List ℕ). kind_of x) (sym c.block_of.ensures) ∙ sym c.kind_of.ensures in
+    rw (ne_eqb _ _ c.if-b-eq0.false, k, c.in-2.is)
 
-pub returns-then-kind-ne3 : goal.returns-then-kind-ne3
+pub returns-in-3 : goal.returns-in-3
 unfolding misplaced
-returns-then-kind-ne3 c = let k = ap (λ (x : List ℕ). kind_of x) (sym c.block_of.ensures) ∙ sym c.kind_of-kind.ensures in
-    rw (ne_eqb _ _ c.if-b-eq0.false, k, ne_eqb _ _ c.if-kind-eq2.false, ne_eqb _ _ c.if-kind-ne3.true)
+returns-in-3 c = let k = ap (λ (x : List ℕ). kind_of x) (sym c.block_of.ensures) ∙ sym c.kind_of.ensures in
+    rw (ne_eqb _ _ c.if-b-eq0.false, k, c.in-3.is) (ap not c.goes_on.ensures)
 
-pub returns : goal.returns
+pub returns-in_default : goal.returns-in_default
 unfolding misplaced
-returns c = let k = ap (λ (x : List ℕ). kind_of x) (sym c.block_of.ensures) ∙ sym c.kind_of-kind.ensures in
-    rw (ne_eqb _ _ c.if-b-eq0.false, k, ne_eqb _ _ c.if-kind-eq2.false, eq-eqb _ _ c.if-kind-ne3.false) (ap not c.goes_on.ensures)
+returns-in_default c = let k = ap (λ (x : List ℕ). kind_of x) (sym c.block_of.ensures) ∙ sym c.kind_of.ensures in
+    rw (ne_eqb _ _ c.if-b-eq0.false, k, ne_eqb c.kind_of.result 2 (search rules), ne_eqb c.kind_of.result 3 (search rules))

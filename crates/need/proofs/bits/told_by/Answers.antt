@@ -7,7 +7,7 @@ pub loop-b-init : goal.loop-b-init
 loop-b-init c =
     let a = c.args in
     let n = min (blocks_of a.plan.now) 32 in
-    let e : c.least32-b.result ≡ n = search rules in
+    let e : c.min-b.result ≡ n = search rules in
     rw e (omega arith, down_none (counts a.classes 1) n, down_none (counts a.classes 3) n, down_none (counts a.classes 4) n)
 
 pub with_class-x-requires : goal.with_class-x-requires

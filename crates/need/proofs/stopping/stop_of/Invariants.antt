@@ -1,6 +1,7 @@
-use Rattle.std.proofs.Common.{◌≡◌, ◌-◌, ◌≤◌, min}
+use Rattle.std.proofs.Common.{is_some}
+use Rattle.std.specs.Option.{unwrap_or}
 use Rattle.plan.specs.Fields.{last_of}
-use Rattle.plan.specs.Periods.{blocks_of, block_at}
+use Rattle.plan.specs.Periods.{block_at}
 use Rattle.need.specs.Telling.{is_told}
 use Rattle.need.proofs.Found.{Found}
 use Rattle.need.proofs.Telling.{Behind}
@@ -8,7 +9,4 @@ use Rattle.need.proofs.stopping.stop_of.Given as goal
 
 abbrev pub invariant-loop-b : goal.invariant-loop-b
 invariant-loop-b l =
-    (l.b ≤ l.n) × (l.n ≡ min (blocks_of l.plan) 32) × Behind l.chosen l.b l.bits × Found (is_told l.chosen l.plan) (λ k. last_of (block_at l.plan k)) l.b l.any l.day
-
-abbrev pub decreases-loop-b : goal.decreases-loop-b
-decreases-loop-b l = l.n - l.b
+    Behind l.chosen l.b l.bits × Found (is_told l.chosen l.plan) (λ k. last_of (block_at l.plan k)) l.b (is_some l.stop) (unwrap_or l.stop 0)

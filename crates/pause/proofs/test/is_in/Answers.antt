@@ -26,6 +26,3 @@ returns-then-is_day c =
     let a = c.args in
     let d : leb a.day last_number ≡ true = cc in
     ap (λ (t : Bool). leb a.first a.day && t) (still_open a.day a.last (leb-true a.day last_number d))
-
-pub returns : goal.returns
-returns c = cc

@@ -1,19 +1,14 @@
-use mathlib.Core.Path.{sym, ◌∙◌}
+use mathlib.Core.Bool.{true, false}
+use mathlib.Core.Path.{◌≡◌}
 use borrow.Author.Rules.{rules}
-use Rattle.below.proofs.Search.{none_zero, none_more, first_is, first_end}
-use Rattle.period.specs.Period.{ahead_of}
+use Rattle.std.proofs.Common.{tests}
+use Rattle.plan.specs.Periods.{is_period}
+use Rattle.period.proofs.Ranges.{last_below}
 use Rattle.period.proofs.header.ahead_of.Goals as goal
 
-pub loop-i-init : goal.loop-i-init
-loop-i-init c = (search rules, none_zero _)
-
-pub returns-then-is_period : goal.returns-then-is_period
-unfolding ahead_of
-returns-then-is_period c = (sym (first_is _ c.loop-i-test.true c.loop-i.invariant.1 (sym c.is_period.ensures ∙ c.if-is_period.true)), search rules)
-
-pub loop-i-preserved : goal.loop-i-preserved
-loop-i-preserved c = (search rules, none_more _ c.loop-i.invariant.1 (sym c.is_period.ensures ∙ c.if-is_period.false))
-
 pub returns : goal.returns
-unfolding ahead_of
-returns c = (sym (first_end _ c.loop-i-test.false c.loop-i.invariant.1), search rules)
+returns c =
+    let p = c.args.plan.now in
+    last_below c.args.b _ _ _ _ (λ a. is_period p a ≡ true) (λ a. is_period p a ≡ false) c.find.ensures.ran (cc)
+    (λ x q k. search (rules, tests))
+    (λ x q k. (search (rules, tests), search (rules, tests)))

@@ -2,4 +2,4 @@ use Rattle.period.proofs.turn.is_other.Goals as goal
 
 pub returns : goal.returns
 returns c =
-    rw (c.from_of.ensures.0, c.pick64-high.ensures, c.pick64-low.ensures, c.pick16-last.ensures, c.is_marked-marked.ensures)
+    rw (c.from_of.ensures.0, c.select_unpredictable-last.ensures, c.is_marked-marked.ensures)

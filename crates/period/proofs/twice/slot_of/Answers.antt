@@ -7,6 +7,6 @@ pub returns : goal.returns
 unfolding slot_of
 returns c =
     let d = c.args.d in
-    let e : c.pick64-2.result ≡ slot_of d =
-    rw (c.pick64-2.ensures, c.pick64.ensures, c.least1439.ensures) in
+    let e : c.select_unpredictable-2.result ≡ slot_of d =
+    rw (c.select_unpredictable-2.ensures, c.select_unpredictable.ensures, c.min.ensures) in
     (e, rw e (slot_small d))

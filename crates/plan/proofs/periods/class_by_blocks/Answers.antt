@@ -12,8 +12,8 @@ use Rattle.plan.proofs.periods.class_by_blocks.Goals as goal
 pub loop-i-init : goal.loop-i-init
 loop-i-init c = (search rules, search rules, any_start _ _, any_start _ _)
 
-pub with_marks-next-requires : goal.with_marks-next-requires
-with_marks-next-requires c = let l = c.loop-i in
+pub with_marks-m-requires : goal.with_marks-m-requires
+with_marks-m-requires c = let l = c.loop-i in
     let h = whole_block c.args.plan.now (c.args.b + l.i) (omega (arith, c.requires.2, l.invariant.1)) in
     (rw c.block_of.ensures h, omega (arith, c.doses_here.ensures))
 
@@ -25,11 +25,11 @@ loop-i-preserved c = let a = c.args in
     let more : l.i * 20 < a.n = omega (arith, l.invariant.1) in
     let one = any_block (λ j. not (is_marked (dose_in p a.b j))) (λ k. not (is_marked (dose_of (record_at r k)))) a.n l.i more (λ k h. ap (λ (d : Dose). not (is_marked d)) (at_place p a.b l.i k h)) in
     let two = any_block (λ j. is_marked (dose_in p a.b j)) (λ k. is_marked (dose_of (record_at r k))) a.n l.i more (λ k h. ap (λ (d : Dose). is_marked d) (at_place p a.b l.i k h)) in
-    let w = rw (c.block_of.ensures, c.doses_here.ensures, l.invariant.2, l.invariant.3) at c.with_marks-next.ensures in
+    let w = rw (c.block_of.ensures, c.doses_here.ensures, l.invariant.2, l.invariant.3) at c.with_marks-m.ensures in
     (search rules, search rules, w.0 ∙ sym one, w.1 ∙ sym two)
 
 pub returns : goal.returns
 unfolding class_of has_unmarked has_marked
 returns c = let l = c.loop-i in
     let e : min (l.i * 20) c.args.n ≡ doses_of c.args.plan.now c.args.b = omega (arith, c.requires.0, l.invariant.0, l.invariant.1, c.loop-i-test.false) in
-    (rw (← e) (cc), search rules)
+    rw (← e) (cc)

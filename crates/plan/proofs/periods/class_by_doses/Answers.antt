@@ -1,18 +1,17 @@
-use mathlib.Core.Path.{◌≡◌, sym}
-use native.Mathlib.Omega.{arith}
-use borrow.Author.Rules.{rules}
-use Rattle.below.proofs.Search.{any_zero, any_more}
-use Rattle.plan.specs.Periods.{doses_of, has_unmarked, has_marked, class_of}
+use Rattle.std.proofs.Common.{ℕ, ◌∙◌, refl, Bool, arith, not, rules, tests}
+use Rattle.std.proofs.lemmas.Iterator.{YieldsList-from_range}
+use Rattle.std.proofs.lemmas.Iterator.Search.{any_from_yields_List}
+use Rattle.plan.specs.Fields.{is_marked}
+use Rattle.plan.specs.Periods.{dose_in, has_unmarked, has_marked, class_of}
+use Rattle.plan.proofs.Found.{any_found}
 use Rattle.plan.proofs.periods.class_by_doses.Goals as goal
-
-pub loop-j-init : goal.loop-j-init
-loop-j-init c = (search rules, sym (any_zero _), sym (any_zero _))
-
-pub loop-j-preserved : goal.loop-j-preserved
-loop-j-preserved c = (search rules, rw (any_more) (cc), rw (any_more) (cc))
 
 pub returns : goal.returns
 unfolding class_of has_unmarked has_marked
-returns c = let a = c.args in
-    let e : c.loop-j.j ≡ doses_of a.plan.now a.b = omega (arith, c.requires) in
-    (rw (← e) (cc), search rules)
+returns c =
+    let a = c.args in
+    let marked : ℕ → Bool = λ j. is_marked (dose_in a.plan.now a.b j) in
+    let unmarked : ℕ → Bool = λ j. not (marked j) in
+    let one = any_from_yields_List unmarked _ _ c.any-unmarked.result c.any-unmarked.ensures.ran (YieldsList-from_range 0 a.n a.n refl (omega arith)) (λ x b q k. search (rules, tests)) in
+    let two = any_from_yields_List marked _ _ c.any-marked.result c.any-marked.ensures.ran (YieldsList-from_range 0 a.n a.n refl (omega arith)) (λ x b q k. search (rules, tests)) in
+    c.class_by.ensures ∙ rw (one, two, any_found unmarked a.n, any_found marked a.n, c.requires)

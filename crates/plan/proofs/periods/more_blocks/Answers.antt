@@ -1,19 +1,15 @@
-use mathlib.Core.Path.{sym, ◌∙◌}
-use borrow.Author.Rules.{rules}
-use Rattle.below.proofs.Search.{none_zero, none_more, first_is, first_end}
-use Rattle.plan.specs.Periods.{more_of}
+use Rattle.std.proofs.Common.{◌≡◌, ◌∙◌, ℕ, Bool, ◌+◌, true, false, not, rules, tests}
+use Rattle.std.proofs.lemmas.Iterator.{first_from_Range}
+use Rattle.plan.specs.Periods.{is_continuation, more_of}
+use Rattle.below.proofs.Search.{first_le}
+use Rattle.plan.proofs.Found.{first_found}
 use Rattle.plan.proofs.periods.more_blocks.Goals as goal
-
-pub loop-i-init : goal.loop-i-init
-loop-i-init c = (search rules, none_zero _)
-
-pub returns-then-is_behind : goal.returns-then-is_behind
-unfolding more_of
-returns-then-is_behind c = (sym (first_is _ c.loop-i-test.true c.loop-i.invariant.1 (sym c.is_behind.ensures ∙ c.if-is_behind.true)), search rules)
-
-pub loop-i-preserved : goal.loop-i-preserved
-loop-i-preserved c = (search rules, none_more _ c.loop-i.invariant.1 (sym c.is_behind.ensures ∙ c.if-is_behind.false))
 
 pub returns : goal.returns
 unfolding more_of
-returns c = (sym (first_end _ c.loop-i-test.false c.loop-i.invariant.1), search rules)
+returns c =
+    let a = c.args in
+    let test : ℕ → Bool = λ i. not (is_continuation a.plan.now (a.b + 1 + i)) in
+    let found = first_from_Range _ _ _ c.find.result (λ i. test i ≡ true) (λ i. test i ≡ false) c.find.ensures.ran (λ x q k. search (rules, tests)) (λ x q k. search (rules, tests)) in
+    let e = first_found test 63 c.find.result found in
+    (c.unwrap_or.ensures ∙ e, rw (c.unwrap_or.ensures ∙ e) (first_le test 63))

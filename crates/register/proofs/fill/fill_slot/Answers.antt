@@ -4,4 +4,4 @@ use Rattle.register.proofs.fill.fill_slot.Goals as goal
 
 pub returns : goal.returns
 returns c = let a = c.args in
-    slot_filled a.slot.now a.plan.now a.first a.second c.requires.0 c.requires.1 (search rules) c.fill_control.ensures c.put_bytes.ensures c.clear.ensures
+    slot_filled a.slot.now a.plan.now a.first a.second c.requires.0 c.requires.1 (search rules) c.control_block.ensures (cc) c.clear.ensures

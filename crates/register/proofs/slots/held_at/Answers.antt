@@ -1,19 +1,14 @@
-use mathlib.Core.Path.{sym, ◌∙◌}
-use borrow.Author.Rules.{rules}
-use Rattle.below.proofs.Search.{none_zero, none_more, first_is, first_end}
-use Rattle.register.specs.Slots.{held_at}
+use Rattle.std.proofs.Common.{rules, tests}
+use Rattle.std.proofs.lemmas.Iterator.{YieldsList-from_slice}
+use Rattle.std.proofs.lemmas.Iterator.Search.{position_from_yields_List}
+use Rattle.register.specs.Slots.{holds, held_at}
+use Rattle.register.proofs.SlotList.{AreSlots, first_slot}
 use Rattle.register.proofs.slots.held_at.Goals as goal
-
-pub loop-i-init : goal.loop-i-init
-loop-i-init c = (search rules, none_zero _)
-
-pub returns-then-holds_at : goal.returns-then-holds_at
-unfolding held_at
-returns-then-holds_at c = rw (← c.slots_of-n.ensures.0) (sym (first_is _ c.loop-i-test.true c.loop-i.invariant.1 (sym c.holds_at.ensures ∙ c.if-holds_at.true)))
-
-pub loop-i-preserved : goal.loop-i-preserved
-loop-i-preserved c = (search rules, none_more _ c.loop-i.invariant.1 (sym c.holds_at.ensures ∙ c.if-holds_at.false))
 
 pub returns : goal.returns
 unfolding held_at
-returns c = rw (← c.slots_of-n.ensures.0) (sym (first_end _ c.loop-i-test.false c.loop-i.invariant.1))
+returns c =
+    let n = c.args.number in
+    let w : AreSlots c.args.register.now c.slots_of.result.now = record { count = c.slots_of.ensures.0; each = c.slots_of.ensures.1 } in
+    first_slot w (λ s. holds s n)
+    (position_from_yields_List (λ s. holds s n) _ _ c.position.result c.position.ensures.ran (YieldsList-from_slice _ c.iter.ensures.rest) (λ x b q k. search (rules, tests)))

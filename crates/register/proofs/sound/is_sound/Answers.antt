@@ -1,23 +1,30 @@
-use mathlib.Core.Path.{sym, ◌∙◌}
-use native.Mathlib.Omega.{arith}
-use borrow.Author.Rules.{rules}
-use Rattle.register.proofs.Looking.{looked_none, looked_free, looked_held, looked_clash, looked_wrong, looked_all}
+use Rattle.std.proofs.Common.{◌≡◌, refl, ◌∙◌, arith, rules, tests}
+use Rattle.std.proofs.lemmas.Iterator.{YieldsList-from_slice, YieldsList-from_range}
+use Rattle.std.proofs.lemmas.Iterator.Search.{all_from_yields_List, any_from_yields_List}
+use Rattle.register.specs.Sound.{slot_right, clashes}
+use Rattle.register.proofs.SlotList.{AreSlots, are_right, no_slot, some_slot, right_apart, not_right}
+use Rattle.register.proofs.sound.is_sound.Goals.{then-not-is_empty, else-not-is_empty}
 use Rattle.register.proofs.sound.is_sound.Goals as goal
 
-pub loop-i-init : goal.loop-i-init
-loop-i-init c = (search rules, looked_none _)
+pub returns-then-all : goal.returns-then-all
+returns-then-all c =
+    let r = c.args.register.now in
+    let slots = c.slots_of-slots.result.now in
+    let w : AreSlots r slots = record { count = c.slots_of-slots.ensures.0; each = c.slots_of-slots.ensures.1 } in
+    let right = elim c.if-not-is_empty.branch as (λ _. c.if-not-is_empty.value ≡ are_right r) [
+      | then-not-is_empty v ↦ some_slot w c.is_empty.ensures v.if-not-is_empty.true (v.value-is ∙ all_from_yields_List slot_right _ _ v.all.result v.all.ensures.ran (YieldsList-from_slice _ v.iter.ensures.rest) (λ x b q k. search (rules, tests)))
+      | else-not-is_empty v ↦ no_slot w c.is_empty.ensures v.if-not-is_empty.false v.value-is
+    ] in
+    right_apart w right c.if-all.true (omega arith)
+    (any_from_yields_List (clashes r) _ _ c.any.result c.any.ensures.ran (YieldsList-from_range _ _ _ refl refl) (λ x b q k. search (rules, tests)))
 
-pub returns-then-not-slot_right : goal.returns-then-not-slot_right
-returns-then-not-slot_right c = looked_wrong _ c.loop-i.i (omega arith) c.slot_at-slot.ensures.0 (sym c.slot_right.ensures ∙ c.if-not-slot_right.true)
-
-pub loop-i-preserved-then-is_free : goal.loop-i-preserved-then-is_free
-loop-i-preserved-then-is_free c = (search rules, looked_free c.loop-i.invariant.1 c.slot_at-slot.ensures.0 (sym c.slot_right.ensures ∙ c.if-not-slot_right.false) (sym c.is_free.ensures ∙ c.if-is_free.true))
-
-pub returns-then-is_among : goal.returns-then-is_among
-returns-then-is_among c = looked_clash c.loop-i.invariant.1 c.slot_at-slot.ensures.0 (sym c.slot_right.ensures ∙ c.if-not-slot_right.false) (omega arith) (sym c.is_free.ensures ∙ c.if-is_free.false) (cc) (sym c.is_among.ensures ∙ c.if-is_among.true)
-
-pub loop-i-preserved : goal.loop-i-preserved
-loop-i-preserved c = (search rules, looked_held c.loop-i.invariant.1 c.slot_at-slot.ensures.0 (sym c.slot_right.ensures ∙ c.if-not-slot_right.false) (omega arith) (sym c.is_free.ensures ∙ c.if-is_free.false) (cc) (sym c.is_among.ensures ∙ c.if-is_among.false))
-
-pub returns : goal.returns
-returns c = looked_all _ c.slots_of-n.ensures.0 c.loop-i-test.false c.loop-i.invariant.0 c.loop-i.invariant.1
+pub returns-else-all : goal.returns-else-all
+returns-else-all c =
+    let r = c.args.register.now in
+    let slots = c.slots_of-slots.result.now in
+    let w : AreSlots r slots = record { count = c.slots_of-slots.ensures.0; each = c.slots_of-slots.ensures.1 } in
+    let right = elim c.if-not-is_empty.branch as (λ _. c.if-not-is_empty.value ≡ are_right r) [
+      | then-not-is_empty v ↦ some_slot w c.is_empty.ensures v.if-not-is_empty.true (v.value-is ∙ all_from_yields_List slot_right _ _ v.all.result v.all.ensures.ran (YieldsList-from_slice _ v.iter.ensures.rest) (λ x b q k. search (rules, tests)))
+      | else-not-is_empty v ↦ no_slot w c.is_empty.ensures v.if-not-is_empty.false v.value-is
+    ] in
+    not_right w right c.if-all.false

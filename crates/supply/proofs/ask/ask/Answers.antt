@@ -1,26 +1,21 @@
-use mathlib.Core.Bool.{true, false, not}
-use mathlib.Core.Logic.{⊎_elim}
-use mathlib.Core.Path.{◌≡◌, refl, sym, ap, ◌∙◌}
-use lib.Dec.{eqb}
-use borrow.Author.Tests.{eqb-true, eqb-false}
-use Rattle.below.proofs.Tests.{bool_cases}
-use Rattle.verdict.specs.Verdict.{refusal_of}
-use Rattle.supply.proofs.Asking.{for_broken, for_refused, for_going}
+use mathlib.Core.Path.{refl, sym, ◌∙◌}
+use Rattle.std.proofs.lemmas.Result.{err_from_is_err_and}
+use Rattle.verdict.proofs.Passing.{classes_given, classes_refused}
+use Rattle.supply.proofs.Asking.{refused_broken, refused_given, asks_supply, not_given}
 use Rattle.supply.proofs.ask.ask.Goals as goal
 
 pub returns-in_default : goal.returns-in_default
 returns-in_default c =
     let e = c.in_default.is in
-    for_broken _ refl refl refl refl (sym c.verdict_with_classes-judged.ensures.0 ∙ e) refl (c.refusal_of.ensures ∙ ap refusal_of e)
+    rw (c.refusal_in.ensures, e) (refused_broken (classes_refused _ c.args.plan.now _ (sym c.verdict_with_classes-answer.ensures ∙ e)))
+
+pub returns-in_err-asked_by : goal.returns-in_err-asked_by
+returns-in_err-asked_by c =
+    let v = classes_given _ c.args.plan.now _ (sym c.verdict_with_classes-answer.ensures ∙ c.in-Ok.is) in
+    let p = err_from_is_err_and c.from_residual.result c.from_residual.ensures.1 in
+    rw (p.1, p.2) (refused_given v.1 _ (sym c.asked_by.ensures ∙ c.in_err-asked_by.was))
 
 pub returns : goal.returns
 returns c =
-    let j = c.verdict_with_classes-judged.ensures in
-    let v = sym j.0 ∙ c.in-Accepted.is in
-    let n = c.asked_by-number in
-    let h = c.alone.ensures in
-    let m = c.told_by.ensures in
-    ⊎_elim
-    (λ (t : eqb n.result 0 ≡ true). for_going _ refl refl refl refl v n.ensures h j.1 m (eqb-true _ _ t) (ap not t))
-    (λ (t : eqb n.result 0 ≡ false). for_refused _ refl refl refl refl v n.ensures h j.1 m (eqb-false _ _ t) (ap not t))
-    (bool_cases (eqb n.result 0))
+    let v = classes_given _ c.args.plan.now _ (sym c.verdict_with_classes-answer.ensures ∙ c.in-Ok.is) in
+    asks_supply v.1 _ refl refl refl refl v.2 c.told_by.ensures (not_given _ _ (sym c.asked_by.ensures ∙ c.in_ok-asked_by.was)).0

@@ -1,20 +1,17 @@
-use mathlib.Core.Path.{◌≡◌}
-use lib.ListN.{take}
-use Rattle.pause.proofs.Lists.{front_of_first, lent_few}
-use Rattle.pause.specs.Pauses.{lent_of}
-use Rattle.supply.proofs.Unpacked.{supply_unpacked}
+use Rattle.std.proofs.Common.{sym}
+use lib.Seq.{length-take-le}
+use Rattle.supply.proofs.Unpacked.{lent_records, lent_within, supply_unpacked}
 use Rattle.supply.proofs.packed.supply_packed.Goals as goal
 
-pub supply_lent-requires : goal.supply_lent-requires
-supply_lent-requires c =
-    let s = c.args.pauses.now in
-    rw c.packed_count.ensures (lent_few s)
+pub slice_bounds-records-end : goal.slice_bounds-records-end
+slice_bounds-records-end c = rw (c.packed_count.ensures, c.packed_records-records.ensures) (lent_within c.args.pauses.now)
+
+pub slice_bounds-supply_of-end : goal.slice_bounds-supply_of-end
+slice_bounds-supply_of-end c =
+    sym (length-take-le c.packed_count.result c.packed_records-records.result (rw (c.packed_count.ensures, c.packed_records-records.ensures) (lent_within c.args.pauses.now)))
 
 pub returns : goal.returns
 returns c =
     let a = c.args in
     let s = a.pauses.now in
-    let n = c.packed_count in
-    let at = c.packed_records in
-    let records : take n.result at.result ≡ lent_of s = rw (n.ensures, at.ensures) (front_of_first 32 (lent_of s) (lent_few s)) in
-    rw (c.supply_lent.ensures, records) (supply_unpacked a.plan.now a.start a.pack a.choice s)
+    rw (c.supply_of.ensures, c.packed_count.ensures, c.packed_records-records.ensures, lent_records s) (supply_unpacked a.plan.now a.start a.pack a.choice s)

@@ -14,6 +14,3 @@ pub overflow_cast-result : goal.overflow_cast-result
 overflow_cast-result c =
     let x : c.position_of.result ≡ position_of (header_of (block_at c.args.plan.now c.args.t.b)) c.args.day = cc in
     record { fits = omega (arith, c.requires.1, position_small (block_at c.args.plan.now c.args.t.b) c.args.day) }
-
-pub returns : goal.returns
-returns c = cc

@@ -26,12 +26,15 @@ loop-j-preserved c =
     let m : c.dose_in-d.result.day ≡ (dose_in a.plan.now a.b l.j).day = rw d in
     sums_go_on _ _ _ _ l.invariant (search rules) (omega arith) (cc)
 
-pub returns-after-loop-j : goal.returns-after-loop-j
-returns-after-loop-j c = sums_stop _ _ _ _ c.loop-j.invariant (λ i h g. absurd (omega arith))
-
-pub returns-then-position-d : goal.returns-then-position-d
-returns-then-position-d c =
+pub returns-then-position-from : goal.returns-then-position-from
+returns-then-position-from c =
     let l = c.loop-j in
-    let d : c.dose_in-d.result ≡ dose_in c.args.plan.now c.args.b l.j = c.dose_in-d.ensures in
-    let m : c.dose_in-d.result.day ≡ (dose_in c.args.plan.now c.args.b l.j).day = rw d in
-    sums_stop _ _ _ _ l.invariant (λ i h g. omega (arith, c.requires.sorted l.j i h (omega arith)))
+    let m : c.from.result ≡ (dose_in c.args.plan.now c.args.b l.j).day = rw (← c.dose_in-d.ensures) c.from.ensures in
+    sums_stop _ _ _ _ l.invariant (λ i h g. omega (arith, m, c.if-position-from.true, c.requires.sorted l.j i h (omega arith)))
+
+pub returns : goal.returns
+returns c =
+    let l = c.loop-j in
+    let e : l.j ≡ c.args.n = omega (arith, l.invariant.within) in
+    let s = sums_stop _ _ _ _ l.invariant (λ i h g. absurd (omega arith)) in
+    (s.0, rw e at s.1)

@@ -1,15 +1,11 @@
 use Prim.Native.Nat.{◌<◌}
-use mathlib.Core.Path.{refl, sym, ◌∙◌}
+use mathlib.Core.Path.{sym, ◌∙◌}
 use native.Mathlib.Omega.{arith}
 use borrow.Author.Rules.{rules}
-use Rattle.need.proofs.Telling.{behind_none, behind_half, behind_first}
+use Rattle.need.proofs.Telling.{behind_half, behind_first}
 use Rattle.plan.specs.Periods.{blocks_of}
-use Rattle.supply.proofs.Surveying.{survey_begin, survey_end}
 use Rattle.supply.proofs.WholeRounds.{chosen_class}
 use Rattle.supply.proofs.survey.survey_of.Goals as goal
-
-pub loop-b-init : goal.loop-b-init
-loop-b-init c = (search rules, search rules, behind_none _, λ choice m. survey_begin (search rules) refl refl refl)
 
 pub loop-b-preserved : goal.loop-b-preserved
 loop-b-preserved c =
@@ -22,6 +18,3 @@ loop-b-preserved c =
       behind_half l.invariant.2,
       λ choice m. c.with_block-s.ensures choice n (λ t. odd ∙ m.each l.b n t ∙ chosen_class choice p l.b) (l.invariant.3 choice m),
     )
-
-pub returns : goal.returns
-returns c choice m = survey_end (omega arith) (c.loop-b.invariant.3 choice m)

@@ -1,16 +1,13 @@
 use mathlib.Core.Bool.{◌&&◌}
 use mathlib.Core.Path.{sym, ◌∙◌}
 use native.Mathlib.Omega.{arith}
-use Rattle.below.proofs.Search.{none_zero, none_more, any_hit, any_end}
-use Rattle.need.proofs.Telling.{behind_none, behind_half, behind_first}
+use Rattle.below.proofs.Search.{none_more, any_hit, any_end}
+use Rattle.need.proofs.Telling.{behind_half, behind_first}
 use Rattle.need.specs.Need.{fixed_or_mixed}
 use Rattle.supply.specs.Dates.{ends_from, has_interval, is_ranging}
 use Rattle.supply.proofs.Wanting.{ranges_told}
 use borrow.Author.Rules.{rules}
 use Rattle.supply.proofs.wanted.is_ranging.Goals as goal
-
-pub loop-b-init : goal.loop-b-init
-loop-b-init c = (search rules, search rules, behind_none _, none_zero _)
 
 pub returns-then-is_ranging_at : goal.returns-then-is_ranging_at
 unfolding is_ranging

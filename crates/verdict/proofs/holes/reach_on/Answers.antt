@@ -4,27 +4,35 @@ use Rattle.verdict.specs.Coverage.{in_group}
 use Rattle.verdict.specs.Code.Groups.{cover_of}
 use Rattle.verdict.specs.Code.Walks.{reach_on}
 use Rattle.verdict.proofs.holes.reach_on.Goals as goal
-use Rattle.verdict.proofs.holes.reach_on.Goals.{Else-not-in_group}
+use Rattle.verdict.proofs.holes.reach_on.Goals.{Else-not-holds}
 
-covers : (c : Else-not-in_group) → in_group (cover_of c.args.g) c.args.q.class ≡ true
-covers c = rw c.cover_of.ensures at (sym c.in_group.ensures ∙ c.if-not-in_group.false)
+covers : (c : Else-not-holds) → in_group (cover_of c.args.g) c.args.q.class ≡ true
+covers c = rw c.cover.ensures at (sym c.holds.ensures ∙ c.if-not-holds.false)
 
-pub returns-then-not-in_group : goal.returns-then-not-in_group
+pub returns-in_err-s : goal.returns-in_err-s
 unfolding reach_on
-returns-then-not-in_group c = rw (rw c.cover_of.ensures at (sym c.in_group.ensures ∙ c.if-not-in_group.true))
+returns-in_err-s c = rw c.in_err-s.was c.from_residual.ensures
+
+pub returns-then-not-holds : goal.returns-then-not-holds
+unfolding reach_on
+returns-then-not-holds c = rw (c.in_ok-s.was, rw c.cover.ensures at (sym c.holds.ensures ∙ c.if-not-holds.true))
 
 pub returns-then-s-q : goal.returns-then-s-q
 unfolding reach_on
 returns-then-s-q c =
-    rw (c.in_group-spans.ensures, c.later.ensures, covers (goal.at.returns-then-s-q c).Else-not-in_group, c.if-s-q.true)
+    rw (c.in_ok-s.was, c.holds-spans.ensures, c.max.ensures, covers (goal.at.returns-then-s-q c).Else-not-holds, c.if-s-q.true)
 
-pub returns-then-s-spans : goal.returns-then-s-spans
+pub returns-in-true-true : goal.returns-in-true-true
 unfolding reach_on
-returns-then-s-spans c =
-    rw (covers (goal.at.returns-then-s-spans c).Else-not-in_group, c.if-s-q.false, rw c.in_group-spans.ensures at c.if-s-spans.true)
+returns-in-true-true c =
+    rw (c.in_ok-s.was, covers (goal.at.returns-in-true-true c).Else-not-holds, c.if-s-q.false, c.in-true-true.is-0, sym c.in-true-true.ensures)
 
-pub returns : goal.returns
+pub returns-in-true-false : goal.returns-in-true-false
 unfolding reach_on
-returns c =
-    let g = c.in_group-spans.ensures in
-    rw (g, covers (goal.at.returns c).Else-not-in_group, c.if-s-q.false, rw g at c.if-s-spans.false)
+returns-in-true-false c =
+    rw (c.in_ok-s.was, covers (goal.at.returns-in-true-false c).Else-not-holds, c.if-s-q.false, c.in-true-false.is-0, sym c.in-true-false.ensures)
+
+pub returns-in-false-default : goal.returns-in-false-default
+unfolding reach_on
+returns-in-false-default c =
+    rw (c.in_ok-s.was, covers (goal.at.returns-in-false-default c).Else-not-holds, c.if-s-q.false, c.in-false-default.is-0, c.holds-spans.ensures)

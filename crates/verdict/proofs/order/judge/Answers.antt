@@ -1,23 +1,28 @@
+use Rattle.std.specs.Prelude.{Err}
 use mathlib.Core.Path.{refl, ap, sym, ◌∙◌}
-use Rattle.form.proofs.Formed.{formed}
-use Rattle.verdict.specs.declared.Answer.TheVariants.{Broken}
+use Rattle.std.proofs.lemmas.Result.{err_from_is_err_and}
+use Rattle.form.proofs.Formed.{formed, dated}
 use Rattle.verdict.proofs.Lowest.{form_broken}
-use Rattle.verdict.proofs.Passing.{formed_few, judged_broken, judged_clear, judged_ready, judged_classes, has_classes}
+use Rattle.verdict.proofs.Passing.{formed_few, judged_broken, judged_clear, judged_classed, judged_classes, has_classes}
 use Rattle.verdict.proofs.order.judge.Goals as goal
 
-pub returns-in-Broken : goal.returns-in-Broken
-returns-in-Broken c = (form_broken _ (sym c.form_of-form.ensures ∙ c.in-Broken.is), refl)
+pub returns-in_err-form_of : goal.returns-in_err-form_of
+returns-in_err-form_of c = let p = err_from_is_err_and c.from_residual.result c.from_residual.ensures.1 in
+    rw (p.1, p.2) (form_broken _ (sym c.in_err-form_of.ensures), refl)
 
-pub judge_periods-found-requires : goal.judge_periods-found-requires
-judge_periods-found-requires c = (formed_few (formed _ _ (sym c.form_of-form.ensures ∙ c.in_default.is)), c.requires)
+pub judge_periods-requires : goal.judge_periods-requires
+judge_periods-requires c = (formed_few (formed _ _ (sym c.in_ok-form_of.ensures)), c.requires)
 
-pub returns-then-found-lt15 : goal.returns-then-found-lt15
-returns-then-found-lt15 c = (ap Broken c.of_rule.ensures ∙ judged_broken (formed _ _ (sym c.form_of-form.ensures ∙ c.in_default.is)) c.judge_periods-found.ensures c.if-found-lt15.true, refl)
+pub returns-in-Some : goal.returns-in-Some
+returns-in-Some c = (ap Err c.of_rule.ensures ∙ judged_broken (formed _ _ (sym c.in_ok-form_of.ensures)) (rw c.in-Some.is at c.judge_periods.ensures), refl)
+
+pub invariant_of-judge_together : goal.invariant_of-judge_together
+invariant_of-judge_together c =
+    record { classed = judged_classed (formed _ _ (sym c.in_ok-form_of.ensures)) c.judge_periods.ensures }
 
 pub judge_together-requires : goal.judge_together-requires
-judge_together-requires c = let f = formed _ _ (sym c.form_of-form.ensures ∙ c.in_default.is) in
-    let w = c.judge_periods-found.ensures in
-    record { ready = judged_ready f w; unbroken = judged_clear f w c.if-found-lt15.false }
+judge_together-requires c = let f = formed _ _ (sym c.in_ok-form_of.ensures) in
+    record { dated = dated f; unbroken = judged_clear f (rw c.in_default.is at c.judge_periods.ensures) }
 
 pub returns : goal.returns
-returns c = (c.judge_together.ensures, has_classes c.judge_together.result _ _ (judged_classes (formed _ _ (sym c.form_of-form.ensures ∙ c.in_default.is)) c.judge_periods-found.ensures))
+returns c = (c.judge_together.ensures, has_classes c.judge_together.result _ _ (judged_classes (formed _ _ (sym c.in_ok-form_of.ensures)) c.judge_periods.ensures))

@@ -9,7 +9,7 @@ pub loop-b-init : goal.loop-b-init
 loop-b-init c = (search rules, search rules, judged_zero _ _ c.requires.1)
 
 pub loop-b-preserved : goal.loop-b-preserved
-loop-b-preserved c = (search rules, search rules, c.with_block-t.ensures)
+loop-b-preserved c = (search rules, search rules, c.with_block-found.ensures)
 
 pub returns : goal.returns
 returns c = let l = c.loop-b in

@@ -1,15 +1,15 @@
 use mathlib.Core.Path.{sym, ◌∙◌}
+use Rattle.std.proofs.lemmas.Result.{err_from_is_err_and}
 use Rattle.verdict.specs.Classes.{classes_by}
 use Rattle.verdict.proofs.order.verdict_with_classes.Goals as goal
 
-pub returns-in-Accepted : goal.returns-in-Accepted
+pub returns-in_err-judge : goal.returns-in_err-judge
 unfolding classes_by
-returns-in-Accepted c = let e = c.in-Accepted.is in
-    let j = c.judge-answer.ensures in
-    (j.0, rw (sym j.0 ∙ e) (rw e at j.1))
+returns-in_err-judge c = let e = c.in_err-judge.was in
+    let p = err_from_is_err_and c.from_residual.result c.from_residual.ensures.1 in
+    rw (p.1, p.2, sym c.judge.ensures.0 ∙ e)
 
-pub returns-in-Broken : goal.returns-in-Broken
+pub returns : goal.returns
 unfolding classes_by
-returns-in-Broken c = let e = c.in-Broken.is in
-    let j = c.judge-answer.ensures in
-    (j.0, rw (sym j.0 ∙ e))
+returns c = let e = c.in_ok-judge.was in
+    rw (sym c.judge.ensures.0 ∙ e, rw e at c.judge.ensures.1)

@@ -1,11 +1,11 @@
-use borrow.Author.Tests.{eq-eqb, ne_eqb}
+use mathlib.Core.Path.{sym, ◌∙◌}
 use Rattle.verdict.specs.Code.Walks.{class_with}
 use Rattle.verdict.proofs.usual.class_with.Goals as goal
 
-pub returns-then-c-eq0 : goal.returns-then-c-eq0
+pub returns-then-is_empty : goal.returns-then-is_empty
 unfolding class_with
-returns-then-c-eq0 c = rw (eq-eqb _ _ c.if-c-eq0.true)
+returns-then-is_empty c = rw (sym c.is_empty.ensures ∙ c.if-is_empty.true)
 
-pub returns-else-c-eq0 : goal.returns-else-c-eq0
+pub returns-else-is_empty : goal.returns-else-is_empty
 unfolding class_with
-returns-else-c-eq0 c = rw (ne_eqb _ _ c.if-c-eq0.false)
+returns-else-is_empty c = rw (sym c.is_empty.ensures ∙ c.if-is_empty.false)

@@ -1,4 +1,0 @@
-use Rattle.register.proofs.ask.not_released.Goals as goal
-
-pub returns : goal.returns
-returns c = rw c.alone.ensures

@@ -1,6 +1,0 @@
-use Rattle.register.proofs.Writing.{control_filled}
-use Rattle.register.proofs.fill.fill_control.Goals as goal
-
-pub returns : goal.returns
-returns c = let a = c.args in
-    cc (control_filled a.blocks a.first a.second, c.requires, c.clear.ensures, c.put_bytes.ensures, c.put_word.ensures, c.put_word-2.ensures, c.seal.ensures)

@@ -1,4 +1,0 @@
-use Rattle.register.proofs.slots.is_free.Goals as goal
-
-pub returns : goal.returns
-returns c = cc

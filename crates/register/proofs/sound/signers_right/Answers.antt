@@ -1,4 +1,0 @@
-use Rattle.register.proofs.sound.signers_right.Goals as goal
-
-pub returns : goal.returns
-returns c = cc

@@ -1,4 +1,0 @@
-use Rattle.screen.proofs.chivetassel_verdict.Goals as goal
-
-pub returns : goal.returns
-returns c = cc

@@ -1,6 +1,0 @@
-use Rattle.verdict.specs.Coverage.{holes}
-use Rattle.verdict.proofs.holes.has_holes.Goals as goal
-
-pub returns : goal.returns
-unfolding holes
-returns c = rw (c.has_hole.ensures, c.has_hole-2.ensures, c.has_hole-3.ensures)

@@ -1,6 +1,0 @@
-use Rattle.verdict.specs.Coverage.{hole_at}
-use Rattle.verdict.proofs.holes.is_hole.Goals as goal
-
-pub returns : goal.returns
-unfolding hole_at
-returns c = cc

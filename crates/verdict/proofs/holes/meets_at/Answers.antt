@@ -1,5 +1,0 @@
-use Rattle.verdict.proofs.Meeting.{meets_is}
-use Rattle.verdict.proofs.holes.meets_at.Goals as goal
-
-pub returns : goal.returns
-returns c = let a = c.args in rw (meets_is a.g a.plan.now a.lo a.hi a.b) (cc)
