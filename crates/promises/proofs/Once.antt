@@ -23,6 +23,7 @@ once =
       longs = λ a b c x y u v i. record { first = (u.0 ∙ sym v.0) i; second = (u.1 ∙ sym v.1) i; third = (u.2 ∙ sym v.2) i };
       opened = λ d n x y u v i. record { dose = (u.0 ∙ sym v.0) i; spare = (u.1 ∙ sym v.1) i };
       judged = λ rule class x y u v i. record { rule = (u.0 ∙ sym v.0) i; class = (u.1 ∙ sym v.1) i };
+      classes = λ p x y u v. u ∙ sym v;
       stop = λ any day x y u v. same_option x y (u.0 ∙ sym v.0) (u.1 ∙ sym v.1);
       calls = λ r c x y s t u v. called_once u v;
       releases = λ r c x y s t u v. called_once u v;

@@ -13,7 +13,8 @@ use Rattle.refusal.specs.declared.Refusal.{Refusal}
 use Rattle.register.specs.Paper.{nothing, released, stated}
 use Rattle.register.specs.Steps.{Call, Called}
 use Rattle.register.specs.declared.State.{State}
-use Rattle.verdict.specs.Answers.{Answer}
+use Rattle.verdict.specs.Classes.{classes_by}
+use Rattle.verdict.specs.Verdict.{verdict_of}
 
 pub record Once : Type 0 where
   -- day: `date_of`
@@ -27,6 +28,8 @@ pub record Once : Type 0 where
   pub opened : (d : Dose) (n : ℕ) (x y : Opened) → (x.dose ≡ d) × (x.spare ≡ n) → (y.dose ≡ d) × (y.spare ≡ n) → x ≡ y
   -- period: `judge_period` says rule and class
   pub judged : (rule : ℕ) (class : Class) (x y : Judged) → (x.rule ≡ rule) × (x.class ≡ class) → (y.rule ≡ rule) × (y.class ≡ class) → x ≡ y
+  -- verdict: `verdict_with_classes` says what comes with the verdict
+  pub classes : (p : List ℕ) (x y : Result (List Class) Refusal) → x ≡ classes_by (verdict_of p) p → y ≡ classes_by (verdict_of p) p → x ≡ y
   -- need: `stop_of` says whether there is a stop day, and which
   pub stop : (any : Bool) (day : ℕ) (x y : Option ℕ) → (is_some x ≡ any) × (unwrap_or x 0 ≡ day) → (is_some y ≡ any) × (unwrap_or y 0 ≡ day) → x ≡ y
   -- register: `clear`, `submit`, `sign` and `drop_plan`; `release`; `state_of`
