@@ -24,21 +24,27 @@ fn rest_at(s: &[u8], at: usize) -> &[u8]
 // stands alone.
 #[cold]
 #[inline(never)]
-fn cut_bytes<const N: usize>(rest: &[u8]) -> [u8; N]
-    ensures { StandsAt N rest.now 0 result }
-{
-    array::from_fn(|k| byte_at(rest, k))
-}
-
-// The N bytes from `at` on. Their fast way is a test and a wide load.
-fn bytes_at<const N: usize>(s: &[u8], at: usize) -> [u8; N]
+fn cut_bytes<const N: usize>(s: &[u8], at: usize) -> [u8; N]
     ensures { StandsAt N s.now at result }
 {
     let rest = rest_at(s, at);
-    match rest.first_chunk() {
-        Some(bytes) => *bytes,
-        None => cut_bytes(rest),
+    // at the end and past it no byte is left, and none is asked for
+    if rest.is_empty() {
+        return [0; N];
     }
+    array::from_fn(|k| byte_at(rest, k))
+}
+
+// The N bytes from `at` on. Their fast way is two tests and a wide load.
+fn bytes_at<const N: usize>(s: &[u8], at: usize) -> [u8; N]
+    ensures { StandsAt N s.now at result }
+{
+    if let Some(rest) = s.get(at..) {
+        if let Some(bytes) = rest.first_chunk() {
+            return *bytes;
+        }
+    }
+    cut_bytes(s, at)
 }
 
 // The 16-bit number at `at`.
@@ -62,7 +68,7 @@ pub fn long_at(s: &[u8], at: usize) -> u64
     u64::from_le_bytes(bytes_at(s, at))
 }
 
-// The three 64-bit numbers from `at` on, by one test of the length.
+// The three 64-bit numbers from `at` on, tested for together.
 pub fn longs_at(s: &[u8], at: usize) -> Longs
     ensures { (result.first ≡ long_at s.now at) × (result.second ≡ long_at s.now (at + 8)) × (result.third ≡ long_at s.now (at + 16)) }
 {
