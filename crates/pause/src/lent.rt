@@ -24,11 +24,15 @@ pub fn paused(ps: &[Pause], day: u32) -> bool
     hit
 }
 
-// 21: are there more than 32 pauses, or is one of them out?
+// 21: are there more than 32 pauses, or is one of them out? Here too all of them are looked at, several at a time.
 pub fn are_out(ps: &[Pause]) -> bool
     ensures { result ≡ are_out ps.now }
 {
-    (32 < ps.len()) | ps.iter().any(|p| is_out(*p))
+    let mut out = false;
+    for p in ps {
+        out |= is_out(*p);
+    }
+    (32 < ps.len()) | out
 }
 
 // Is the day paused, and up to which day does that stay so?
