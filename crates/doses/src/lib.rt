@@ -76,7 +76,7 @@ fn fold_period<S, F: Fn(S, Dose) -> S>(plan: &[u8], day: u32, b: u8, start: S, f
 }
 
 // What `f` makes of a start and the doses of a day, one after the other.
-pub fn fold_doses<S, F: Fn(S, Dose) -> S>(plan: &[u8], day: u32, start: S, f: F) -> S
+fn fold_doses<S, F: Fn(S, Dose) -> S>(plan: &[u8], day: u32, start: S, f: F) -> S
     requires { F.IsAlwaysCallable f }
     ensures { FoldsTo (λ s d t. F.post f s d t) start (doses_on plan.now day) result }
 {

@@ -1,10 +1,10 @@
 -- Which periods count by a choice, told in a number: a bit for each block.
-use Rattle.std.specs.Prelude.{◌≡◌, ℕ, zero, suc, ◌+◌, ◌*◌, ◌/◌, ◌%◌, ◌<◌, min, Bool, true, cond, ◌&&◌, ◌||◌, List, ◌==◌, slice_index_or}
+use Rattle.std.specs.Prelude.{◌≡◌, ℕ, zero, suc, ◌+◌, ◌*◌, ◌/◌, ◌%◌, ◌<◌, min, Bool, true, false, cond, not, ◌&&◌, ◌||◌, List, ◌==◌, slice_index, slice_index_or}
 use Rattle.below.specs.Below.{any_below, largest_below}
 use Rattle.plan.specs.Fields.{last_of}
 use Rattle.plan.specs.Periods.{blocks_of, block_at, is_period, class_of}
 use Rattle.plan.specs.declared.Class.{Class}
-use Rattle.plan.specs.declared.Class.TheVariants.{Empty}
+use Rattle.plan.specs.declared.Class.TheVariants.{Empty, Fixed, Need, Mixed}
 use Rattle.need.specs.Need.{choice_of}
 use Rattle.need.specs.declared.Told.{Told}
 
@@ -25,6 +25,26 @@ bits_by choice cs p = bits_from (λ b. (choice_of choice).stops (slice_index_or 
 -- the same for each choice; 1 and 2 have one number
 abbrev pub told_of : List Class → List ℕ → Told
 told_of cs p = record { fixed = bits_by 1 cs p; dosed = bits_by 3 cs p; needed = bits_by 4 cs p }
+
+-- the number of a class, as a caller has it who hands on numbers
+abbrev pub number_of : Class → ℕ
+number_of Empty = 0
+number_of Fixed = 1
+number_of Need = 2
+number_of Mixed = 3
+
+-- "any fixed or mixed period"; "any period with doses"; "a need or mixed period", by such a number. A number that no class has is not
+-- that of an empty period, so that it counts by choice 3, and by no other
+abbrev pub number_stops : ℕ → ℕ → Bool
+number_stops choice n =
+    cond (choice == 1 || choice == 2) (n == 1 || n == 3) (cond (choice == 3) (not (n == 0)) (cond (choice == 4) (n == 2 || n == 3) false))
+
+-- the bits by any numbers; by those of the classes they are the same (proofs/Telling.antt: `told_numbers`)
+abbrev pub bits_by_number : ℕ → List ℕ → List ℕ → ℕ
+bits_by_number choice ns p = bits_from (λ b. number_stops choice (slice_index ns b)) 0 (min (blocks_of p) 32)
+
+abbrev pub told_by : List ℕ → List ℕ → Told
+told_by ns p = record { fixed = bits_by_number 1 ns p; dosed = bits_by_number 3 ns p; needed = bits_by_number 4 ns p }
 
 -- the bits of a choice; by any other number nothing counts
 abbrev pub bits_in : Told → ℕ → ℕ

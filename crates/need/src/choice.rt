@@ -1,8 +1,9 @@
 // What a choice says of a dose, and of a period's class.
 ghost use Rattle.std.specs.Prelude.{◌≡◌};
 ghost use Rattle.need.specs.Need.{choice_of, chosen, is_choice};
+ghost use Rattle.need.specs.Telling.{number_stops};
 
-use plan::{Class, Dose, is_marked, upper_of};
+use plan::{Dose, is_marked, upper_of};
 
 // Does a dose count by the choice?
 // Kept: a `match` of the choice is slower: its jumps stay in the loops of the walk, 5 percent of the time of 28 doses in rounds of 7 days.
@@ -31,17 +32,18 @@ pub fn amount(choice: u32, d: Dose) -> u64
     0
 }
 
-// Does the last day of a period of this class count for the stop day?
-pub(crate) fn is_stopping(choice: u32, class: Class) -> bool
-    ensures { result ≡ (choice_of choice).stops class }
+// Does the last day of a period whose class has this number count for the stop day? 0 is empty, 1 fixed, 2 need and 3 mixed.
+// Kept: a class by its number, since `told_by` promises an answer at every number.
+pub(crate) fn is_stopping(choice: u32, class: u8) -> bool
+    ensures { result ≡ number_stops choice class }
 {
     if (choice == 1) | (choice == 2) {
-        return class.has_fixed();
+        return (class == 1) | (class == 3);
     }
     if choice == 4 {
-        return class.has_need();
+        return (class == 2) | (class == 3);
     }
-    (choice == 3) & !class.is_empty()
+    (choice == 3) & (class != 0)
 }
 
 // Is it one of the four choices?

@@ -7,7 +7,7 @@ mod choice;
 mod due;
 mod stopping;
 
-pub use bits::{bits_by, is_odd, told_by};
+pub use bits::{bits_by, is_odd, told_by, told_of};
 pub use choice::{amount, is_choice};
 pub use due::due_on;
 pub use stopping::stop_of;

@@ -5,7 +5,7 @@ ghost use Rattle.supply.specs.Code.Asking.{unless_given, ForSupply, ForDates};
 
 use crate::wanted::{is_needed, is_ranging};
 use day::Day;
-use need::{Told, told_by};
+use need::{Told, told_of};
 use refusal::{Refusal, refusal_in};
 use verdict::verdict_with_classes;
 
@@ -53,7 +53,7 @@ pub(crate) fn ask(plan: &[u8], start: u32, pack: u64, out: bool) -> Result<Asked
         upper: true,
         needed: true,
         start,
-        told: told_by(plan, classes),
+        told: told_of(plan, classes),
         pack,
     })
 }

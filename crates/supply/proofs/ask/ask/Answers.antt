@@ -18,4 +18,4 @@ returns-in_err-asked_by c =
 pub returns : goal.returns
 returns c =
     let v = classes_given _ c.args.plan.now _ (sym c.verdict_with_classes-answer.ensures ∙ c.in-Ok.is) in
-    asks_supply v.1 _ refl refl refl refl v.2 c.told_by.ensures (not_given _ _ (sym c.asked_by.ensures ∙ c.in_ok-asked_by.was)).0
+    asks_supply v.1 _ refl refl refl refl v.2 c.told_of.ensures (not_given _ _ (sym c.asked_by.ensures ∙ c.in_ok-asked_by.was)).0
