@@ -1,11 +1,12 @@
 -- Where the walk by a choice begins: what the choice's own refusals say of the answer, whatever the pauses are. Assumes nothing.
 use Rattle.std.specs.Prelude.{Err, Ok}
-use Prim.Native.Nat.{ℕ}
+use Prim.Native.Nat.{ℕ, ◌+◌, ◌≤◌}
 use mathlib.Core.Bool.{true, false}
 use mathlib.Core.List.{List}
 use mathlib.Core.Path.{◌≡◌, refl}
 use native.Mathlib.Omega.{arith}
 use borrow.Author.Tests.{eq-eqb, ne_eqb}
+use Rattle.day.specs.Days.{last_number}
 use Rattle.need.specs.Need.{stop_day, has_stop}
 use Rattle.need.specs.Telling.{Tells}
 use Rattle.refusal.specs.Refusals.{alone}
@@ -35,9 +36,13 @@ module _ (p : List ℕ) (a : Asked) (choice : ℕ) where
     unfolding answered_by
     begun_own e ps = let g = given own (stop_day choice p) e in rw (t, ne_eqb _ _ g.0, g.1)
 
-    -- neither is
+    -- neither is: the stop day is one of the calendar
+    pub begun_in : {stop : ℕ} → unless_given own (stop_day choice p) ≡ Ok stop → Judged p a → stop ≤ last_number
+    begun_in e j = omega (arith, (not_given own (stop_day choice p) e).1, stop_day_in choice p (accepted_only p j.accepted.1))
+
+    -- and the walk begins on the start day
     pub begun_going : {stop chosen : ℕ} {today : Today} → unless_given own (stop_day choice p) ≡ Ok stop → Judged p a → Tells choice p chosen →
-        Begins p a choice (record { going = true; start = a.start; stop = stop; day = a.start; count = 0; chosen = chosen; rest = a.pack; today = today })
+        Begins p a choice (record { start = a.start; stop = stop; end = stop + 1; day = a.start; count = 0; chosen = chosen; rest = a.pack; today = today })
     unfolding answered_by
     begun_going e j k =
         let ok = accepted_only p j.accepted.1 in
@@ -53,7 +58,7 @@ module _ (p : List ℕ) (a : Asked) (choice : ℕ) where
                       looks =
                           record {
                             orderly = orderly p ok choice;
-                            on = refl;
+                            end_is = refl;
                             counted = omega arith;
                             within = omega (arith, g.1, u.stop_in);
                             dated = omega (arith, g.1, stop_day_in choice p ok);

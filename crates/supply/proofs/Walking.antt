@@ -2,12 +2,9 @@
 -- answer. Assumes nothing.
 use Rattle.std.specs.Prelude.{Ok}
 use Prim.Native.Nat.{ℕ, ◌+◌, ◌-◌, ◌≤◌, ◌<◌}
-use mathlib.Core.Bool.{true, false}
 use mathlib.Core.List.{List}
-use mathlib.Core.Logic.{⊎_elim}
 use mathlib.Core.Path.{◌≡◌, refl, sym, ap, ◌∙◌}
 use native.Mathlib.Omega.{arith}
-use Rattle.below.proofs.Tests.{bool_cases, true_not_false, le_or_lt}
 use Rattle.day.specs.Days.{open_mark}
 use Rattle.need.specs.Need.{need_on}
 use Rattle.need.specs.Telling.{Tells}
@@ -19,7 +16,7 @@ use Rattle.supply.specs.Covered.{summed}
 use Rattle.supply.specs.Steps.{State, days_from, after, steps_of, lasting_by}
 use Rattle.supply.specs.Supply.{lasting_of}
 use Rattle.supply.specs.Code.Asking.{answered_by, Begins}
-use Rattle.supply.specs.Code.Walking.{Looking, Going, Able, Stood, Ready, Seen, Advanced, state_of, outcome_of, left, Onward, Went, lasting_at, Ended}
+use Rattle.supply.specs.Code.Walking.{Looking, Going, Able, Stood, Ready, Seen, Advanced, state_of, outcome_of, Onward, Went, lasting_at, Ended}
 use Rattle.supply.specs.declared.Lasting.{Lasting}
 use Rattle.supply.specs.declared.ask.Asked.{Asked}
 use Rattle.supply.specs.declared.taking.Stride.{Stride}
@@ -45,7 +42,7 @@ able g k =
       looks =
           record {
             orderly = l.orderly;
-            on = k.going_is ∙ l.on;
+            end_is = omega (arith, k.end_is, k.stop_is, l.end_is);
             counted = omega (arith, k.start_is, k.count_is, k.day_is, l.counted);
             within = omega (arith, k.day_is, k.stop_is, l.within);
             dated = omega (arith, k.stop_is, l.dated);
@@ -60,12 +57,13 @@ module _ (choice : ℕ) (p : List ℕ) (s : Sight) (w r : Walk) (tells : Tells c
 
   -- there is none: the walk is over
   pub went_over : ((ps : List Pause) → Seen ps w.day s → days_from choice p ps w.stop w.day w.rest ≡ 0) →
-      r ≡ record { going = false; start = w.start; stop = w.stop; day = w.day; count = w.count; chosen = w.chosen; rest = w.rest; today = w.today } → Went choice p s w r
+      r ≡ record { start = w.start; stop = w.stop; end = w.day; day = w.day; count = w.count; chosen = w.chosen; rest = w.rest; today = w.today } → Went choice p s w r
   went_over none same =
       rw same
       (record {
-        less = rw g.on (omega arith);
-        at = λ e. absurd (true_not_false e refl);
+        less = omega (arith, g.end_is, g.within);
+        no_earlier = omega arith;
+        at = λ e. absurd (omega arith);
         onward =
             λ ps seen.
             record {
@@ -79,23 +77,9 @@ module _ (choice : ℕ) (p : List ℕ) (s : Sight) (w r : Walk) (tells : Tells c
 
   -- a step of the days of x
   module _ (x : Stride) (some : 0 < x.days) (a : Advanced choice p w x r) where
-    -- either it goes on or its days reached past the stop day
-    goes : r.going ≡ true → w.day + x.days ≤ w.stop
-    goes e = ⊎_elim (λ z. z) (λ (z : w.stop < w.day + x.days). absurd (true_not_false e (a.over z))) (le_or_lt (w.day + x.days) w.stop)
-
-    ended : r.going ≡ false → r.stop + 1 - r.day ≡ 0
-    ended e =
-        ⊎_elim
-        (λ (l : w.day + x.days ≤ w.stop). absurd (true_not_false (a.goes l).0 e))
-        (λ (l : w.stop < w.day + x.days). omega (arith, a.day_is, a.stop_is))
-        (le_or_lt (w.day + x.days) w.stop)
-
-    less : left r < left w
-    less =
-        ⊎_elim
-        (λ (e : r.going ≡ true). let l = goes e in rw (e, g.on, a.day_is, a.stop_is) (omega arith))
-        (λ (e : r.going ≡ false). rw (e, g.on, a.day_is, a.stop_is) (omega (arith, g.within)))
-        (bool_cases r.going)
+    -- where it is over, its days reached past the stop day
+    ended : r.end ≤ r.day → r.stop + 1 - r.day ≡ 0
+    ended e = omega (arith, a.end_is, a.stop_is, g.end_is)
 
     module _ (ps : List Pause) (days : days_from choice p ps w.stop w.day w.rest ≡ x.days) (need : x.need ≡ summed (need_on choice p ps) w.day x.days) where
       days_at_lem : days_at choice p ps w.start w.stop (state_of w) ≡ x.days
@@ -126,21 +110,22 @@ module _ (choice : ℕ) (p : List ℕ) (s : Sight) (w r : Walk) (tells : Tells c
     pub went_step : ((ps : List Pause) → Seen ps w.day s → (days_from choice p ps w.stop w.day w.rest ≡ x.days) × (x.need ≡ summed (need_on choice p ps) w.day x.days)) → Went choice p s w r
     went_step of =
         record {
-          less = less;
+          less = omega (arith, a.end_is, a.day_is, g.end_is, g.within);
+          no_earlier = omega (arith, a.day_is);
           at =
               λ e.
-              let l = goes e in
+              let l : w.day + x.days ≤ w.stop = omega (arith, a.end_is, a.day_is, g.end_is) in
               record {
                 looks =
                     record {
                       orderly = g.orderly;
-                      on = e;
+                      end_is = omega (arith, a.end_is, a.stop_is, g.end_is);
                       counted = omega (arith, a.day_is, a.start_is, a.count_is, g.counted);
                       within = omega (arith, a.day_is, a.stop_is);
                       dated = omega (arith, a.stop_is, g.dated);
                     };
                 tells = rw a.chosen_is tells;
-                known = λ h m. rw a.day_is ((a.goes l).1 (rw a.day_is at m));
+                known = λ h m. rw a.day_is (a.known l (rw a.day_is at m));
               };
           onward = λ ps seen. let y = of ps seen in onward ps y.0 y.1;
         }
@@ -149,7 +134,8 @@ module _ (choice : ℕ) (p : List ℕ) (s : Sight) (w r : Walk) (tells : Tells c
 pub went_from : {choice : ℕ} {p : List ℕ} {s : Sight} {w v r : Walk} → Stood choice p w v → Went choice p s v r → Went choice p s w r
 went_from k a =
     record {
-      less = rw (← k.stop_is, ← k.day_is, ← k.going_is) a.less;
+      less = rw (← k.day_is, ← k.end_is) a.less;
+      no_earlier = rw (← k.day_is) a.no_earlier;
       at = a.at;
       onward =
           λ ps seen.
@@ -169,9 +155,9 @@ module _ (choice : ℕ) (p : List ℕ) (ps : List Pause) where
     pub start_is : w.start ≡ w₀.start
     pub stop_is : w.stop ≡ w₀.stop
     pub begun : w.start ≤ w.day
-    pub at : w.going ≡ true → Going choice p w
+    pub at : w.day < w.end → Going choice p w
     pub outcome_is : outcome_of choice p ps w ≡ steps_of choice p ps w₀.start w₀.stop w₀.rest
-    pub done : w.going ≡ false → outcome_of choice p ps w ≡ state_of w
+    pub done : w.end ≤ w.day → outcome_of choice p ps w ≡ state_of w
 
   module _ (w₀ : Walk) where
     pub begins : Ready choice p w₀ → Inv w₀ w₀
@@ -182,7 +168,7 @@ module _ (choice : ℕ) (p : List ℕ) (ps : List Pause) where
           begun = omega (arith, r.day_is);
           at = λ g. r.at;
           outcome_is = let z : w₀.day - w₀.start ≡ 0 = omega (arith, r.day_is) in rw (z, r.day_is, r.count_is);
-          done = λ g. absurd (true_not_false r.at.looks.on g);
+          done = λ g. absurd (omega (arith, r.at.looks.end_is, r.at.looks.within));
         }
 
     pub turns : {w r : Walk} {s : Sight} → Inv w₀ w → Seen ps w.day s → Went choice p s w r → Inv w₀ r
@@ -197,13 +183,7 @@ module _ (choice : ℕ) (p : List ℕ) (ps : List Pause) where
           done = o.over;
         }
 
-    -- no step goes back, so that what is in sight of one day serves the next
-    pub no_earlier : {w r : Walk} {s : Sight} → Inv w₀ w → w.going ≡ true → Seen ps w.day s → Went choice p s w r → w.day ≤ r.day
-    no_earlier {w} {r} i going seen t =
-        let l : left r < w.stop + 1 - w.day + 1 = rw going at t.less in
-        omega (arith, l, (t.onward ps seen).stop_is, (i.at going).looks.within)
-
-    pub ends : {w : Walk} → Inv w₀ w → w.going ≡ false → Ended choice p ps w₀ w
+    pub ends : {w : Walk} → Inv w₀ w → w.end ≤ w.day → Ended choice p ps w₀ w
     ends i g =
         record {
           begun = i.begun;

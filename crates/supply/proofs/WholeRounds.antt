@@ -10,7 +10,7 @@ use lib.Dec.{eqb}
 use borrow.Author.Tests.{eqb-true, eq-eqb, ne_eqb, not-true}
 use Rattle.below.proofs.Search.{any_zero, any_none, any_not, any_hit, any_same}
 use Rattle.below.proofs.Tests.{bool_cases, bool_iff, and_both, or_either, or_true, same_or_not}
-use Rattle.below.proofs.Total.{sum_more, sum_same, sum_both}
+use Rattle.below.proofs.Total.{sum_more, sum_le, sum_same, sum_both}
 use Rattle.below.specs.Below.{any_below, sum_below}
 use Rattle.doses.specs.Doses.{covers, position_of, applies}
 use Rattle.need.proofs.Rows.{counts_fixed, stops_fixed, counts_four, stops_four, counts_other, stops_other}
@@ -22,7 +22,7 @@ use Rattle.plan.specs.Periods.{blocks_of, block_at, doses_of, dose_in, has_unmar
 use Rattle.plan.specs.declared.Dose.{Dose}
 use Rattle.supply.specs.Covered.{summed}
 use Rattle.supply.specs.Steps.{is_chosen, has_other, is_alone, is_inside}
-use Rattle.supply.specs.Code.Standing.{InRound, need_at, need_of, round_need}
+use Rattle.supply.specs.Code.Standing.{InRound, Small, need_at, need_of, round_need}
 use Rattle.supply.proofs.Accepted.{covers_begun}
 use Rattle.supply.proofs.Covering.{summed_zero, summed_more, summed_plus}
 use Rattle.supply.proofs.Range.{sum_flat, sum_none, plan_sum}
@@ -139,12 +139,22 @@ module _ (choice : ℕ) (p : List ℕ) (b : ℕ) where
   pub need_rounds : (d m : ℕ) → 0 < interval_of (block_at p b) → first_of (block_at p b) ≤ d → need_of choice p b (d + m * interval_of (block_at p b)) ≡ need_of choice p b d
   need_rounds d m i l = ap (need_at choice p b) (position_rounds (block_at p b) d m i l)
 
+  -- what a round needs is small
+  pub round_small : Small choice p b → round_need choice p b ≤ 12799999998720
+  unfolding round_need
+  round_small h = omega (arith, h.few, sum_le (λ j. chosen choice (dose_in p b j)) 9999999999 (doses_of p b) h.each)
+
 -- a period that has no dose of the choice needs nothing
 module _ (choice : ℕ) (p : List ℕ) (c : ℕ) (none : is_chosen choice p c ≡ false) where
   -- none of its doses counts
   counts_none : (j : ℕ) → j < doses_of p c → chosen choice (dose_in p c j) ≡ 0
   unfolding is_chosen
   counts_none j l = rw (any_not (λ (j : ℕ). (choice_of choice).counts (dose_in p c j)) none j l)
+
+  -- in no round
+  pub idle_round : round_need choice p c ≡ 0
+  unfolding round_need
+  idle_round = sum_none _ (doses_of p c) counts_none
 
   -- and on no day
   pub idle_need : (d : ℕ) → need_of choice p c d ≡ 0

@@ -47,10 +47,10 @@ pub(crate) fn begin(plan: &[u8], asked: Asked, choice: u32) -> Result<Walk, Refu
     let chosen = bits_by(asked.told, choice);
     let stop = own_stop(asked.start, choice, stop_of(plan, chosen))?;
     Ok(Walk {
-        going: true,
         chosen,
         start: asked.start,
         stop,
+        end: stop + 1,
         day: asked.start,
         count: 0,
         rest: asked.pack,

@@ -22,7 +22,7 @@ fn walked(plan: &[u8], choice: u32, pauses: &[Pause], begun: Walk) -> Walk
 {
     let mut w = begun;
     let mut s = sight_from(pauses, w.day);
-    while w.going {
+    while w.day < w.end {
         w = step(plan, choice, w, s);
         s = sight_on(pauses, w.day, s);
     }

@@ -16,22 +16,22 @@ use crate::survey::survey_of;
 #[derive(Clone, Copy)]
 pub(crate) struct Today {
     pub first: Option<Period>,
-    pub in_first: Place,
     pub until: u32,
-    pub same: u32,
+    pub in_first: Place,
     pub rounds: Round,
     pub second: Option<Period>,
+    pub same: u32,
     pub in_second: Place,
 }
 
 // A day of which nothing is known.
 pub(crate) const NO_DAY: Today = Today {
     first: None,
-    in_first: NO_PLACE,
     until: 0,
-    same: 0,
+    in_first: NO_PLACE,
     rounds: NO_ROUND,
     second: None,
+    same: 0,
     in_second: NO_PLACE,
 };
 

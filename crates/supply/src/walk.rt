@@ -9,14 +9,15 @@ use crate::today::{Today, next_day, on_day};
 use day::Day;
 use pause::Sight;
 
-// The walk stands on `day`, with a rest, after `count` steps, and goes on as long as `going`.
-// `chosen` has a bit for each block whose period has doses of the choice. The walk is handed on by value at each step, and the compiler
-// keeps most of it in registers: a field more is felt on each day.
+// The walk stands on `day`, with a rest, after `count` steps, and goes on as long as that day lies ahead of day `end`: the one behind the
+// stop day, or the walk's own, once it needs more than the rest. `chosen` has a bit for each block whose period has doses of the choice.
+// The walk is handed on by value at each step: its fields and those of `Today` leave no gap (a `Period` has a spare byte, and its `Option`
+// a tag), and stand in an order in which the compiler keeps them in registers.
 #[derive(Clone, Copy)]
 pub(crate) struct Walk {
-    pub going: bool,
     pub start: u32,
     pub stop: u32,
+    pub end: u32,
     pub day: u32,
     pub count: u32,
     pub chosen: u32,
@@ -59,7 +60,6 @@ fn advance(plan: &[u8], choice: u32, w: Walk, x: Stride) -> Walk
     r.day = day;
     r.count = w.count + 1;
     if w.stop < day {
-        r.going = false;
         return r;
     }
     let t = w.today;
@@ -79,7 +79,7 @@ pub(crate) fn step(plan: &[u8], choice: u32, begun: Walk, s: Sight) -> Walk
     let x = next_stride(w, s);
     if w.rest < x.need {
         let mut r = w;
-        r.going = false;
+        r.end = w.day;
         return r;
     }
     advance(plan, choice, w, x)

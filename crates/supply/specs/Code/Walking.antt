@@ -14,7 +14,7 @@ use Rattle.supply.specs.declared.walk.Walk.{Walk}
 -- the walk stands on a day that is to be looked at
 pub record Looking (choice : ℕ) (p : List ℕ) (w : Walk) : Type 0 where
   pub orderly : Orderly choice p
-  pub on : w.going ≡ true
+  pub end_is : w.end ≡ w.stop + 1
   pub counted : w.start + w.count ≤ w.day
   pub within : w.day ≤ w.stop
   pub dated : w.stop ≤ last_number
@@ -84,10 +84,10 @@ pub record Stays (choice : ℕ) (p : List ℕ) (w : Walk) (x : Stride) : Type 0 
 
 -- r is the walk w, and knows where its day stands
 pub record Stood (choice : ℕ) (p : List ℕ) (w r : Walk) : Type 0 where
-  pub going_is : r.going ≡ w.going
   pub chosen_is : r.chosen ≡ w.chosen
   pub start_is : r.start ≡ w.start
   pub stop_is : r.stop ≡ w.stop
+  pub end_is : r.end ≡ w.end
   pub day_is : r.day ≡ w.day
   pub rest_is : r.rest ≡ w.rest
   pub count_is : r.count ≡ w.count
@@ -98,11 +98,11 @@ pub record Advanced (choice : ℕ) (p : List ℕ) (w : Walk) (x : Stride) (r : W
   pub chosen_is : r.chosen ≡ w.chosen
   pub start_is : r.start ≡ w.start
   pub stop_is : r.stop ≡ w.stop
+  pub end_is : r.end ≡ w.end
   pub day_is : r.day ≡ w.day + x.days
   pub rest_is : r.rest ≡ w.rest - x.need
   pub count_is : r.count ≡ w.count + 1
-  pub goes : w.day + x.days ≤ w.stop → (r.going ≡ true) × (w.day + x.days ≤ r.today.until → Known choice p (w.day + x.days) r.today)
-  pub over : w.stop < w.day + x.days → r.going ≡ false
+  pub known : w.day + x.days ≤ w.stop → w.day + x.days ≤ r.today.until → Known choice p (w.day + x.days) r.today
 
 -- what the walk has come to
 abbrev pub state_of : Walk → State
@@ -112,9 +112,9 @@ state_of w = record { rest = w.rest; days = w.day - w.start; count = w.count }
 abbrev pub outcome_of : ℕ → List ℕ → List Pause → Walk → State
 outcome_of choice p ps w = after choice p ps w.start w.stop (w.stop + 1 - w.day) (state_of w)
 
--- what is left of the walk: its days, and that it still goes
+-- what is left of the walk: the days ahead of its end
 abbrev pub left : Walk → ℕ
-left w = w.stop + 1 - w.day + cond w.going 1 0
+left w = w.end - w.day
 
 -- r goes on with the walk w, to the same outcome
 pub record Onward (choice : ℕ) (p : List ℕ) (ps : List Pause) (w r : Walk) : Type 0 where
@@ -122,12 +122,13 @@ pub record Onward (choice : ℕ) (p : List ℕ) (ps : List Pause) (w r : Walk) :
   pub stop_is : r.stop ≡ w.stop
   pub begun : r.start ≤ r.day
   pub outcome_is : outcome_of choice p ps r ≡ outcome_of choice p ps w
-  pub over : r.going ≡ false → outcome_of choice p ps r ≡ state_of r
+  pub over : r.end ≤ r.day → outcome_of choice p ps r ≡ state_of r
 
 -- r is the walk w a step later, or over: whatever the pauses are, if s is what they say from the day of w on
 pub record Went (choice : ℕ) (p : List ℕ) (s : Sight) (w r : Walk) : Type 0 where
   pub less : left r < left w
-  pub at : r.going ≡ true → Going choice p r
+  pub no_earlier : w.day ≤ r.day
+  pub at : r.day < r.end → Going choice p r
   pub onward : (ps : List Pause) → Seen ps w.day s → Onward choice p ps w r
 
 -- why it ended: short of the stop day's end, or behind it

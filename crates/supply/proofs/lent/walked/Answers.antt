@@ -1,7 +1,7 @@
 use Rattle.std.proofs.Common.{arith}
 use Rattle.pause.proofs.InSight.{sight_on_lem}
 use Rattle.supply.specs.Code.Walking.{Seen}
-use Rattle.supply.proofs.Walking.{turns, no_earlier, seen_from}
+use Rattle.supply.proofs.Walking.{turns, seen_from}
 use Rattle.supply.proofs.lent.walked.Goals as goal
 use Rattle.supply.proofs.lent.walked.Goals.{In-loop-w}
 
@@ -21,5 +21,4 @@ loop-w-preserved c =
     let a = c.args in
     let o = (goal.at.loop-w-preserved c).In-loop-w in
     let inv = c.loop-w.invariant.0 in
-    let later = no_earlier a.choice a.plan.now a.pauses.now a.begun inv c.loop-w-test.true (in_sight o) c.step-w.ensures in
-    (turns a.choice a.plan.now a.pauses.now a.begun inv (in_sight o) c.step-w.ensures, sight_on_lem a.pauses.now c.loop-w.w.day later c.loop-w.invariant.1 c.sight_on-s.ensures)
+    (turns a.choice a.plan.now a.pauses.now a.begun inv (in_sight o) c.step-w.ensures, sight_on_lem a.pauses.now c.loop-w.w.day c.step-w.ensures.no_earlier c.loop-w.invariant.1 c.sight_on-s.ensures)
