@@ -1,7 +1,7 @@
 -- The code: what it reads, finds and answers, and what it writes (SlotList, Reading, Answering, Writing, Clearing, Submitting,
 -- Signing). The register: what is put is read again (Update, Own), what each call shows, makes and leaves (LawBytes, LawDone,
 -- LawFind, LawCalls, Kept), when a register of any make was reached (AnyRegister), what a history says of any that keeps the laws (History), that the register of slots keeps
--- them (Reached), and its promise (Promise). LawRoom is of release's output buffer, LawRevision is P14.
+-- them (Reached), and its promise (Promise). LawRoom is of release's output buffer, LawTold of the zeros of a refusal, LawRevision is P14.
 pub mod SlotList
 pub mod Reading
 pub mod Answering
@@ -21,4 +21,5 @@ pub mod History
 pub mod Reached
 pub mod Promise
 pub mod LawRoom
+pub mod LawTold
 pub mod LawRevision

@@ -1,5 +1,5 @@
 -- The slots of a register as a list, and searches through it. Assumes nothing.
-use Rattle.std.proofs.Common.{◌≡◌, ℕ, zero, suc, ◌+◌, ◌*◌, ◌/◌, ◌<◌, ◌≤◌, Bool, true, false, cond, ltb, not, ◌&&◌, List, [], length, get_or, take, drop, refl, sym, ap, ◌∙◌, arith, eqb, eq-eqb, eqb-true, lt-ltb, ⊎_elim, not-suc-le-zero, drop-drop, get_or-take, length-take-le, take_all, add-one, zero-add}
+use Rattle.std.proofs.Common.{◌≡◌, ℕ, zero, suc, ◌+◌, ◌*◌, ◌/◌, ◌<◌, ◌≤◌, Bool, true, false, cond, ltb, not, ◌&&◌, ◌||◌, List, [], length, get_or, take, drop, refl, sym, ap, ◌∙◌, arith, eqb, eq-eqb, eqb-true, lt-ltb, ⊎_elim, not-suc-le-zero, drop-drop, get_or-take, length-take-le, take_all, add-one, zero-add}
 use Rattle.std.specs.Prelude.{Option, Some, None}
 use Rattle.std.specs.List.{list_any, list_all, position_or_len, range_with_len}
 use Rattle.std.specs.Simd.{first_chunks}
@@ -54,11 +54,11 @@ module _ {X : Type 0} (p : X → Bool) (xs : List X) (d : X) (at : ℕ → Bool)
       (list_all_more p xs j d (omega arith) ∙ rw (all_list j (omega arith) (λ i q. same i (omega arith)), same j (omega arith), all_more at j))
 
 -- and one on the numbers below n
-pub any_number : (p : ℕ → Bool) (n : ℕ) → list_any p (range_with_len 0 n) ≡ any_below n p
-any_number p n =
+pub all_number : (p : ℕ → Bool) (n : ℕ) → list_all p (range_with_len 0 n) ≡ all_below n p
+all_number p n =
     let long : length (range_with_len 0 n) ≡ n = length-range_with_len 0 n in
-    ap (list_any p) (sym (take_all n (range_with_len 0 n) (omega arith)))
-    ∙ any_list p (range_with_len 0 n) 0 p n (omega arith) (λ k l. ap p (get_or-range_with_len 0 n k 0 l ∙ zero-add k))
+    ap (list_all p) (sym (take_all n (range_with_len 0 n) (omega arith)))
+    ∙ all_list p (range_with_len 0 n) 0 p n (omega arith) (λ k l. ap p (get_or-range_with_len 0 n k 0 l ∙ zero-add k))
 
 module _ {r : List ℕ} {slots : List (List ℕ)} (w : AreSlots r slots) (p : List ℕ → Bool) where
   abbrev pub at : ℕ → Bool
@@ -78,11 +78,6 @@ module _ {r : List ℕ} {slots : List (List ℕ)} (w : AreSlots r slots) (p : Li
   pub any_ahead : (j : ℕ) → j < slots_of r → list_any p (take j slots) ≡ any_below j at
   any_ahead j l = any_list p slots [] at j (omega (arith, w.count)) (λ k q. ap p (w.each k (omega arith)))
 
-  pub all_slots : list_all p slots ≡ all_below (slots_of r) at
-  all_slots =
-      ap (list_all p) (sym (take_all (slots_of r) slots (omega (arith, w.count))))
-      ∙ all_list p slots [] at (slots_of r) (omega (arith, w.count)) (λ k q. ap p (w.each k q))
-
 -- slot j and those ahead of it
 module _ {r : List ℕ} {slots : List (List ℕ)} (w : AreSlots r slots) (j : ℕ) (l : j < slots_of r) where
   pub no_clash : is_free (get_or slots j []) ≡ true → false ≡ clashes r j
@@ -97,32 +92,36 @@ module _ {r : List ℕ} {slots : List (List ℕ)} (w : AreSlots r slots) (j : �
       let own : plan_number_of (plan_in (slot_at r j)) ≡ number = ap (λ s. plan_number_of (plan_in s)) (sym (w.each j l)) ∙ sym n in
       f ∙ any_ahead w (λ s. holds s number) j l ∙ rw (taken, own)
 
--- there is a slot, and all are right
-abbrev pub are_right : List ℕ → Bool
-are_right r = ltb 0 (slots_of r) && all_below (slots_of r) (λ i. slot_right (slot_at r i))
+-- slot j is right, and does not clash
+abbrev pub fits : List ℕ → ℕ → Bool
+fits r j = slot_right (slot_at r j) && not (clashes r j)
 
-module _ {r : List ℕ} {slots : List (List ℕ)} (w : AreSlots r slots) {empty right : Bool} where
-  pub no_slot : empty ≡ eqb (length slots) 0 → empty ≡ true → right ≡ not empty → right ≡ are_right r
-  no_slot e n a =
+both_apart : (a b c d : Bool) → ((a && not b) && (c && not d)) ≡ ((a && c) && not (b || d))
+both_apart false b c d = refl
+both_apart true false c d = refl
+both_apart true true false d = refl
+both_apart true true true d = refl
+
+-- all have the one test and none the other: asked in one go
+all_apart : (p q : ℕ → Bool) (n : ℕ) → all_below n (λ i. p i && not (q i)) ≡ (all_below n p && not (any_below n q))
+all_apart p q zero = rw (all_zero (λ i. p i && not (q i)), all_zero p, any_zero q)
+all_apart p q (suc n) =
+    rw (← add-one n)
+    (all_more (λ i. p i && not (q i)) n
+    ∙ rw (all_apart p q n, all_more p n, any_more q n) (both_apart (all_below n p) (any_below n q) (p n) (q n)))
+
+-- a register is sound if it has a slot, and all fit
+module _ {r : List ℕ} {slots : List (List ℕ)} (w : AreSlots r slots) {empty : Bool} (e : empty ≡ eqb (length slots) 0) where
+  pub no_slot : empty ≡ true → {found : Bool} → found ≡ not empty → found ≡ sound r
+  unfolding sound
+  no_slot n f =
       let none : slots_of r ≡ 0 = sym w.count ∙ eqb-true (length slots) 0 (sym e ∙ n) in
-      a ∙ rw (n, none)
+      f ∙ rw (n, none)
 
-  pub some_slot : empty ≡ eqb (length slots) 0 → empty ≡ false → right ≡ list_all slot_right slots → right ≡ are_right r
-  some_slot e n a =
+  pub all_fit : empty ≡ false → {m : ℕ} → m ≡ length slots → {found : Bool} → found ≡ list_all (fits r) (range_with_len 0 m) → found ≡ sound r
+  unfolding sound
+  all_fit n {m} k {found} f =
       let some : ltb 0 (slots_of r) ≡ true =
       lt-ltb 0 (slots_of r)
       (⊎_elim (λ (z : length slots ≡ 0). absurd (true_not_false (e ∙ eq-eqb (length slots) 0 z) n)) (λ q. omega (arith, w.count)) (same_or_not (length slots) 0)) in
-      a ∙ all_slots w slot_right ∙ rw some
-
--- and none has the number of another
-module _ {r : List ℕ} {slots : List (List ℕ)} (w : AreSlots r slots) {right : Bool} (a : right ≡ are_right r) where
-  pub right_apart : right ≡ true → {m : ℕ} → m ≡ length slots → {found : Bool} → found ≡ list_any (clashes r) (range_with_len 0 m) → not found ≡ sound r
-  unfolding sound
-  right_apart t {m} k {found} f =
-      let none : found ≡ any_below (slots_of r) (clashes r) = f ∙ any_number (clashes r) m ∙ rw (k, w.count) in
-      let right : are_right r ≡ true = sym a ∙ t in
-      rw (none, right)
-
-  pub not_right : right ≡ false → right ≡ sound r
-  unfolding sound
-  not_right t = let wrong : are_right r ≡ false = sym a ∙ t in t ∙ rw wrong
+      f ∙ all_number (fits r) m ∙ rw (k, w.count) (all_apart (λ i. slot_right (slot_at r i)) (clashes r) (slots_of r) ∙ rw some)

@@ -1,7 +1,7 @@
 // The soundness of a register, slot by slot.
-ghost use Rattle.std.specs.Prelude.{◌≡◌, ◌≤◌, ◌<◌, cond, Ok, Err};
+ghost use Rattle.std.specs.Prelude.{◌≡◌, ◌≤◌, ◌<◌, ◌&&◌, not, cond, Ok, Err};
 ghost use Rattle.refusal.specs.Refusals.{alone};
-ghost use Rattle.register.specs.Slots.{slots_of, blocks_in};
+ghost use Rattle.register.specs.Slots.{slots_of, slot_at, blocks_in};
 ghost use Rattle.register.specs.Sound.{control_right, signers_right, content_right, slot_right, clashes, sound};
 
 use crate::slots::{
@@ -70,14 +70,20 @@ fn clashes(register: &[u8], j: usize) -> bool
     slots[..j].iter().any(|ahead| holds(ahead, number))
 }
 
-// Is a register sound?
+// Is slot j right, and does it not clash?
+fn fits(register: &[u8], j: usize) -> bool
+    requires { j < slots_of register.now }
+    ensures { result ≡ (slot_right (slot_at register.now j) && not (clashes register.now j)) }
+{
+    slot_right(&slots_of(register)[j]) && !clashes(register, j)
+}
+
+// Is a register sound? No slot is judged behind the first that does not fit.
 fn is_sound(register: &[u8]) -> bool
     ensures { result ≡ sound register.now }
 {
     let slots = slots_of(register);
-    !slots.is_empty()
-        && slots.iter().all(slot_right)
-        && !(0..slots.len()).any(|j| clashes(register, j))
+    !slots.is_empty() && (0..slots.len()).all(|j| fits(register, j))
 }
 
 // What every call asks but clear.

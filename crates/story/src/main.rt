@@ -3,19 +3,13 @@
 
 use block::byte_at;
 use refusal::{Refusal, refusal_in};
-use register::{State, clear, drop_plan, release, sign, state_of, submit};
+use register::{State, clear, drop_plan, length_in, release, sign, state_in, state_of, submit};
 use std::io;
 use std::io::Read;
 
 const A: u32 = 101;
 
 const B: u32 = 202;
-
-// What is said of a plan that is not held.
-const NOTHING: State = State {
-    revision: 0,
-    signers: 0,
-};
 
 fn report<T: Copy>(out: &impl Print, call: &str, answer: Result<T, Refusal>) -> io::Result<()> {
     println!(out; "{call} {}", refusal_in(answer))
@@ -24,7 +18,7 @@ fn report<T: Copy>(out: &impl Print, call: &str, answer: Result<T, Refusal>) -> 
 fn report_state(out: &impl Print, register: &[u8]) -> io::Result<()> {
     let answer = state_of(register, 7);
     report(out, "state", answer)?;
-    let State { revision, signers } = answer.unwrap_or(NOTHING);
+    let State { revision, signers } = state_in(answer);
     println!(out; "  revision {revision}, signers {signers}")
 }
 
@@ -33,7 +27,7 @@ fn report_release(out: &impl Print, register: &[u8]) -> io::Result<()> {
     let answer = release(register, 7, &mut room);
     let revision = byte_at(&room, 16);
     report(out, "release", answer)?;
-    let length = answer.unwrap_or(0);
+    let length = length_in(answer);
     println!(out; "  bytes {length}, of revision {revision}")
 }
 
