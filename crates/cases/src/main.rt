@@ -2,6 +2,8 @@
 // plans and what document 01 says of them are made by tests/cases.py.
 #![tactic(auto)]
 
+ghost use Rattle.std.specs.Io.{ReadsAtMost};
+
 use refusal::refusal_in;
 use std::io;
 use std::io::Read;
@@ -28,8 +30,24 @@ fn report_all(out: &impl Print, plans: &[u8]) -> io::Result<()> {
     Ok(())
 }
 
+// Reads until the input ends or the buffer is full, and gives how many bytes now stand at the buffer's start.
+// Kept: a loop of reads, since std's `copy` says nothing of how many bytes there are, and reads by 8,192 bytes, each copied once more.
+fn read_full(input: &mut impl Read, buffer: &mut [u8]) -> io::Result<usize>
+    ensures { ReadsAtMost result buffer.new }
+{
+    let mut done = 0;
+    while done < buffer.len() {
+        let more = input.read(&mut buffer[done..])?;
+        if more == 0 {
+            break;
+        }
+        done += more;
+    }
+    Ok(done)
+}
+
 fn main(rt: HostRuntime) -> io::Result<()> {
     let mut plans = [0u8; ROOM];
-    let n = io::copy(&mut rt.stdin().take(ROOM as u64), &mut &mut plans[..])?;
-    report_all(&rt, plans.get(..n as usize).unwrap_or(&plans))
+    let n = read_full(&mut rt.stdin(), &mut plans)?;
+    report_all(&rt, &plans[..n])
 }
