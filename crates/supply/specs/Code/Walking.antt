@@ -102,6 +102,8 @@ pub record Advanced (choice : ℕ) (p : List ℕ) (w : Walk) (x : Stride) (r : W
   pub day_is : r.day ≡ w.day + x.days
   pub rest_is : r.rest ≡ w.rest - x.need
   pub count_is : r.count ≡ w.count + 1
+  pub goes : w.day + x.days ≤ w.stop → r.day < r.end
+  pub over : w.stop < w.day + x.days → r.end ≤ r.day
   pub known : w.day + x.days ≤ w.stop → w.day + x.days ≤ r.today.until → Known choice p (w.day + x.days) r.today
 
 -- what the walk has come to

@@ -21,4 +21,5 @@ returns c =
     let n = or_neither _ _ c.if-x-t.false in
     let e = c.requires.stays.0.one n.0 in
     let k = known_on c.requires.able.known c.next_day-r.ensures (omega (arith, e, ltb-false a.w.today.until (a.w.day + a.x.days) n.1)) in
-    record { chosen_is = refl; start_is = refl; stop_is = refl; end_is = refl; day_is = refl; rest_is = refl; count_is = refl; known = λ l m. rw e k }
+    let end = c.requires.able.looks.end_is in
+    record { chosen_is = refl; start_is = refl; stop_is = refl; end_is = refl; day_is = refl; rest_is = refl; count_is = refl; goes = λ l. omega (arith, end, l); over = λ l. omega (arith, end, l); known = λ l m. rw e k }
