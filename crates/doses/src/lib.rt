@@ -6,6 +6,9 @@ ghost use Rattle.std.specs.List.{FoldsTo};
 ghost use Rattle.plan.specs.Fields.{header_of};
 ghost use Rattle.doses.specs.Doses.{covers, position_of, applies, doses_of_period, doses_on, grown, added, day_sums};
 
+mod iter;
+
+pub use iter::{DosesOn, doses_on};
 use plan::{
     Dose, block_of, dose_in, doses_of, first_of, interval_of, is_marked, kind_of, last_of, upper_of,
 };

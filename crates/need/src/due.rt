@@ -10,7 +10,8 @@ use doses::{is_applied, is_covering, position_of};
 use plan::{block_of, dose_in, doses_of};
 
 // The sum with what the doses of the period at block b need on the day.
-// Kept: loops of its own, here and over the blocks, since `fold_doses` would have to be public, and asks that its closure may be called.
+// Kept: loops of its own, here and over the blocks, as they first stood; a fold over `doses_on` says the same (`due_by` of `day_list`), and
+// takes about as long.
 fn with_period(plan: &[u8], choice: u32, day: u32, b: u8, sum: u64) -> u64
     ensures { result ≡ (sum + sum_over (chosen choice) (doses_of_period plan.now day b)) % 2 ^ 64 }
 {
