@@ -1,10 +1,10 @@
-// The doses of a day, one after the other, for a caller who makes of them what he likes. A function that took a closure of his would have
-// to ask that it may be called, and no public function asks anything: so he is handed the doses, and folds them himself.
-ghost use Rattle.std.specs.Prelude.{◌≡◌, cond, min, []};
+// The doses of a day, one after the other, for callers to make of them what they like. A function that took a closure of theirs would have
+// to ask that it may be called, and no public function asks anything: so they are handed the doses, and fold them themselves.
+ghost use Rattle.std.specs.Prelude.{◌≡◌, min};
 ghost use Rattle.std.specs.Iterator.{YieldsFirst, item_count};
 ghost use Rattle.plan.specs.Periods.{blocks_of};
-ghost use Rattle.doses.specs.Doses.{covers, doses_of_period, doses_on};
-ghost use Rattle.doses.specs.Code.Left.{left_in};
+ghost use Rattle.doses.specs.Doses.{doses_on};
+ghost use Rattle.doses.specs.Code.Left.{had_on, left_in};
 
 use crate::{is_applied, is_covering, position_of};
 use plan::{Dose, block_of, dose_in, doses_of};
@@ -29,7 +29,7 @@ impl Rest {
 
     // All doses of a period on a day: none where it has not the day.
     fn of_period(plan: &[u8], day: u32, b: u8) -> Rest
-        ensures { left_in plan.now result ≡ cond (covers plan.now day b) (doses_of_period plan.now day b) [] }
+        ensures { left_in plan.now result ≡ had_on plan.now day b }
     {
         if !is_covering(plan, day, b) {
             return Rest::NOTHING;

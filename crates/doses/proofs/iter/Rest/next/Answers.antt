@@ -2,7 +2,8 @@ use Rattle.std.proofs.Common.{◌≡◌, true, false, sym, ◌∙◌, refl, ap, 
 use Rattle.plan.specs.Periods.{dose_in}
 use Rattle.doses.specs.Doses.{applies}
 use Rattle.doses.specs.declared.iter.Rest.{Rest}
-use Rattle.doses.proofs.Left.{left_none, left_more}
+use Rattle.doses.specs.Code.Left.{applied}
+use Rattle.doses.proofs.Left.{join_end, join_next}
 use Rattle.doses.proofs.iter.Rest.next.Goals as goal
 
 pub returns-then-is_applied : goal.returns-then-is_applied
@@ -12,7 +13,7 @@ returns-then-is_applied c =
     let r : Rest = record { block = l.self.block; next = l.j; end = l.self.end; position = l.self.position } in
     let e = ap (λ (x : Rest). x.end) l.invariant.1 in
     let t : applies r.position (dose_in p r.block r.next) ≡ true = cc in
-    sym l.invariant.0 ∙ left_more p r (omega (arith, e, c.loop-j-test.true)) ∙ rw (t, c.dose_in-d.ensures) refl
+    sym l.invariant.0 ∙ join_next r.end (applied p r) r.next (omega (arith, e, c.loop-j-test.true)) ∙ rw (t, c.dose_in-d.ensures) refl
 
 pub loop-j-preserved : goal.loop-j-preserved
 loop-j-preserved c =
@@ -21,7 +22,7 @@ loop-j-preserved c =
     let r : Rest = record { block = l.self.block; next = l.j; end = l.self.end; position = l.self.position } in
     let e = ap (λ (x : Rest). x.end) l.invariant.1 in
     let t : applies r.position (dose_in p r.block r.next) ≡ false = cc in
-    (rw (left_more p r (omega (arith, e, c.loop-j-test.true)), t) at l.invariant.0, l.invariant.1)
+    (rw (join_next r.end (applied p r) r.next (omega (arith, e, c.loop-j-test.true)), t) at l.invariant.0, l.invariant.1)
 
 pub returns : goal.returns
 returns c =
@@ -29,4 +30,4 @@ returns c =
     let l = c.loop-j in
     let r : Rest = record { block = l.self.block; next = l.j; end = l.self.end; position = l.self.position } in
     let e = ap (λ (x : Rest). x.end) l.invariant.1 in
-    (sym l.invariant.0 ∙ left_none p r (omega (arith, e, c.loop-j-test.false)), left_none p (record { block = l.self.block; next = l.self.end; end = l.self.end; position = l.self.position }) (omega arith))
+    (sym l.invariant.0 ∙ join_end r.end (applied p r) r.next (omega (arith, e, c.loop-j-test.false)), join_end r.end (applied p r) r.end (omega arith))
